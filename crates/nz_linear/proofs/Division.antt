@@ -5,8 +5,9 @@ use Rattle.std.proofs.Math.Nat.{div-add-mod', mod-lt}
 use Rattle.std.proofs.Math.IntN.{*ℤ-zero, zero-*ℤ, *ℤ_comm}
 use Rattle.std.specs.List.{AllByRecursion as Each}
 use Rattle.nz_spec.specs.Vectors.{Vector, dot, scaled, IsMultipleOf, IsPrimitive, IsZero, IsNonzero}
-use Rattle.nz_linear.specs.Division.{IsFloor, IsGcdOf, HasUnitValue, IsPrimitiveOf}
-use Rattle.nz_spec.proofs.IntLaws.{mul-add, mul_assoc, multiple_zero, multiple_add, multiple_mul}
+use Rattle.nz_spec.specs.Boxes.{IsFloor}
+use Rattle.nz_linear.specs.Division.{IsGcdOf, HasUnitValue, IsPrimitiveOf}
+use Rattle.nz_spec.proofs.IntLaws.{add-mul, mul_assoc, multiple_zero, multiple_add, multiple_mul}
 use Rattle.nz_linear.proofs.Ring.{sums, ring_z, one-mul, mul-one}
 use Rattle.nz_linear.proofs.Signs.{cancel_lt, cancel_mul, mul_le, mul_is_pos, sign_cases}
 use Rattle.nz_linear.proofs.Lists.{each_map}
@@ -33,13 +34,13 @@ floor_of (negsuc a) (pos (suc n)) p =
     let m : a % suc n < suc n = mod-lt a (omega arith) in
     record { quotient = negsuc (a / suc n); rest = pos (n - a % suc n); same = omega (arith, ints); low = omega (arith, ints); high = omega (arith, ints) }
 
-pub is_floor : (x d q r : ℤ) → x ≡ q *ℤ d +ℤ r → pos 0 ≤ℤ r → r <ℤ d → IsFloor x d q
-is_floor x d q r e l h = record { below = omega (arith, sums); above = omega (arith, sums) }
+pub is_floor : (d x q r : ℤ) → x ≡ q *ℤ d +ℤ r → pos 0 ≤ℤ r → r <ℤ d → IsFloor d x q
+is_floor d x q r e l h = record { at_most = omega (arith, sums); above = omega (arith, sums, add-mul q (pos 1) d, one-mul d) }
 
-pub floor_unique : (x d q k : ℤ) → pos 0 <ℤ d → IsFloor x d q → IsFloor x d k → q ≡ k
-floor_unique x d q k p f g =
-    let a : q <ℤ (k +ℤ pos 1) = cancel_lt d q (k +ℤ pos 1) p (omega (arith, sums, mul-add d k (pos 1), mul-one d, *ℤ_comm d q, *ℤ_comm d k, f.below, g.above)) in
-    let b : k <ℤ (q +ℤ pos 1) = cancel_lt d k (q +ℤ pos 1) p (omega (arith, sums, mul-add d q (pos 1), mul-one d, *ℤ_comm d q, *ℤ_comm d k, g.below, f.above)) in
+pub floor_unique : (d x q k : ℤ) → pos 0 <ℤ d → IsFloor d x q → IsFloor d x k → q ≡ k
+floor_unique d x q k p f g =
+    let a : q <ℤ (k +ℤ pos 1) = cancel_lt d q (k +ℤ pos 1) p (omega (arith, sums, *ℤ_comm d q, *ℤ_comm d (k +ℤ pos 1), f.at_most, g.above)) in
+    let b : k <ℤ (q +ℤ pos 1) = cancel_lt d k (q +ℤ pos 1) p (omega (arith, sums, *ℤ_comm d k, *ℤ_comm d (q +ℤ pos 1), g.at_most, f.above)) in
     omega (arith, sums)
 
 -- ---- greatest common divisors

@@ -1,16 +1,18 @@
 -- Dual pairs: the expansion, independence, and forms that vanish at all vectors but one.
 use Rattle.std.proofs.Common.{◌≡◌, ℕ, List, [], ◌∷◌, ◌++◌, length, map, ℤ, pos, negsuc, ◌+ℤ◌, ◌*ℤ◌, ◌<ℤ◌, refl, sym, ap, ◌∙◌, arith}
 use Rattle.std.proofs.lemmas.Int.{ints}
-use Rattle.std.proofs.Math.IntN.{*ℤ-zero, *ℤ_comm}
+use Rattle.std.proofs.Math.IntN.{*ℤ-zero}
 use Rattle.std.specs.List.{AllByRecursion as Each}
 use Rattle.nz_spec.specs.Vectors.{Vector, dot, plus, scaled, zero_vector, combination, HasWidth}
 use Rattle.nz_spec.proofs.SumLaws.{length-zero_vector, length-combination, combination-scaled}
+use Rattle.nz_spec.specs.Sums.{IsIndependent}
+use Rattle.nz_spec.proofs.LinearLaws.{AreDual, AreDual-independent}
 use Rattle.nz_linear.specs.DualPairs.{Pair, divisor, IsApart, HasWidths, IsDual, IsDualPair, AllVanish, IsSpace, IsCompleteOn, product, spread, spread_factors}
 use Rattle.nz_linear.proofs.Ring.{sums, ring_z}
 use Rattle.nz_linear.proofs.Signs.{mul_pos, cancel_mul}
 use Rattle.nz_linear.proofs.Lists.{each_map, each_map2, each_append, each_left, each_right}
 use Rattle.nz_spec.proofs.VectorLaws.{dot-scaled, dot-zero, scaled-scaled, one-scaled}
-use Rattle.nz_linear.proofs.VectorLaws.{length-plus, length-scaled, dot-plus, zero-scaled, plus_is_zero, cancel_plus}
+use Rattle.nz_linear.proofs.VectorLaws.{length-plus, length-scaled, dot-plus, zero-scaled, plus_is_zero}
 
 pub product_positive : (ps : List Pair) → IsDual ps → pos 0 <ℤ product ps
 product_positive [] d = omega (arith, sums)
@@ -103,25 +105,17 @@ vanishes_at_combination w f (k ∷ ks) (p ∷ ps) h z =
       vanishes_at_combination w f ks ps h.1 z.1,
     )
 
--- two combinations that are the same vector have the same factors
-pub same_factors : (w : ℕ) (js ks : List ℤ) (ps : List Pair) → length js ≡ length ps → length ks ≡ length ps → Each (HasWidths w) ps → IsDual ps
-    → combination w js (map (λ p. p.vector) ps) ≡ combination w ks (map (λ p. p.vector) ps) → js ≡ ks
-same_factors w [] [] [] l m h d e = refl
-same_factors w (j ∷ js) ks [] l m h d e = absurd (omega arith)
-same_factors w [] (k ∷ ks) [] l m h d e = absurd (omega arith)
-same_factors w [] ks (p ∷ ps) l m h d e = absurd (omega arith)
-same_factors w (j ∷ js) [] (p ∷ ps) l m h d e = absurd (omega arith)
-same_factors w (j ∷ js) (k ∷ ks) (p ∷ ps) l m h d e =
-    let vs = map (λ (q : Pair). q.vector) ps in
-    let lv = h.0.vector_width in
-    let ws = widths_of_vectors w ps h.1 in
-    let apart : Each (λ (q : Pair). dot p.form q.vector ≡ pos 0) ps = each_map (IsApart p) (λ (q : Pair). dot p.form q.vector ≡ pos 0) ps (λ q a. a.there) d.1 in
-    let value : (i : ℤ) (is : List ℤ) → dot p.form (plus (scaled i p.vector) (combination w is vs)) ≡ divisor p *ℤ i = λ i is.
-    omega (arith, sums, dot-plus w p.form (scaled i p.vector) (combination w is vs) (length-scaled w i p.vector lv) (length-combination w is vs ws), dot-scaled p.form i p.vector, *ℤ_comm i (divisor p), vanishes_at_combination w p.form is ps h.1 apart) in
-    let first : j ≡ k = cancel_mul (divisor p) j k d.0 (sym (value j js) ∙ ap (dot p.form) e ∙ value k ks) in
-    let rest = cancel_plus w (scaled k p.vector) (combination w js vs) (combination w ks vs) (length-scaled w k p.vector lv) (length-combination w js vs ws) (length-combination w ks vs ws)
-    (ap (λ t. plus (scaled t p.vector) (combination w js vs)) (sym first) ∙ e) in
-    λ i. first i ∷ same_factors w js ks ps (omega arith) (omega arith) h.1 d.2 rest i
+zero_at_others : (p : Pair) (ps : List Pair) → Each (IsApart p) ps → Each (λ u. dot p.form u ≡ pos 0) (map (λ (q : Pair). q.vector) ps) × Each (λ f. dot f p.vector ≡ pos 0) (map (λ (q : Pair). q.form) ps)
+zero_at_others p [] a = (tt, tt)
+zero_at_others p (q ∷ ps) a = let r = zero_at_others p ps a.1 in ((a.0.there, r.0), (a.0.back, r.1))
+
+are_dual : (ps : List Pair) → IsDual ps → AreDual (map (λ (p : Pair). p.form) ps) (map (λ (p : Pair). p.vector) ps)
+are_dual [] d = tt
+are_dual (p ∷ ps) d = let z = zero_at_others p ps d.1 in let a = d.0 in (omega (arith, sums), z.0, z.1, are_dual ps d.2)
+
+-- the vectors of a dual pair are independent
+pub dual_independent : (w : ℕ) (ps : List Pair) → IsDualPair w ps → IsIndependent w (map (λ p. p.vector) ps)
+dual_independent w ps d = AreDual-independent w (map (λ (p : Pair). p.form) ps) (map (λ (p : Pair). p.vector) ps) (widths_of_vectors w ps d.widths) (are_dual ps d.dual)
 
 -- ---- a form that vanishes at all vectors but the first is there a rational multiple of the first form
 pub multiple_of_form : (w : ℕ) (In : Vector → Type 0) (p : Pair) (ps : List Pair) (f x : Vector) → IsSpace w In → IsDualPair w (p ∷ ps) → IsCompleteOn w In (p ∷ ps) → In x

@@ -9,7 +9,7 @@ use Rattle.nz_spec.proofs.IntLaws.{mul-nonneg}
 use Rattle.nz_linear.specs.Cones.{Satisfies}
 use Rattle.nz_linear.specs.Extreme.{VanishesWith}
 use Rattle.nz_linear.specs.DoubleDescription.{IsExtremeByZeros}
-use Rattle.nz_linear.specs.RayStep.{AreRays}
+use Rattle.nz_linear.specs.RayStep.{AreExtremeRays}
 use Rattle.nz_linear.proofs.Ring.{sums}
 use Rattle.nz_linear.proofs.Signs.{mul_is_zero, int_zero_or_not}
 use Rattle.nz_linear.proofs.Lists.{each_map3}
@@ -55,7 +55,7 @@ term_of w rows x (c ∷ cs) (g ∷ gs) lr k l s z =
           }))
     ]
 
-pub each_extreme_listed : (w : ℕ) (rows rays : List Vector) (x : Vector) → AreRays w rows rays → length x ≡ w → Satisfies rows x → IsPrimitive x → IsExtremeByZeros w rows x → Contains rays x
+pub each_extreme_listed : (w : ℕ) (rows rays : List Vector) (x : Vector) → AreExtremeRays w rows rays → length x ≡ w → Satisfies rows x → IsPrimitive x → IsExtremeByZeros w rows x → Contains rays x
 each_extreme_listed w rows rays x r lx sx px ex =
     let d = r.description in
     let i = generated w rows rays x d lx sx in

@@ -10,7 +10,7 @@ use Rattle.nz_spec.specs.Sums.{IsInCone}
 use Rattle.nz_linear.specs.Cones.{Satisfies}
 use Rattle.nz_linear.specs.Extreme.{IsPointed}
 use Rattle.nz_linear.specs.DoubleDescription.{IsExtremeByZeros}
-use Rattle.nz_linear.specs.RayStep.{AreRays}
+use Rattle.nz_linear.specs.RayStep.{AreExtremeRays}
 use Rattle.nz_linear.proofs.Ring.{sums}
 use Rattle.nz_linear.proofs.Lists.{each_map, each_map2, each_of_map, map_each}
 use Rattle.nz_spec.proofs.VectorLaws.{scaled-zero, scaled-scaled}
@@ -69,7 +69,7 @@ dual_extreme w ps d o = each_of_map (λ (p : Pair). p.vector) (IsExtremeByZeros 
     }) (spread_on w ps d.widths d.dual))
 
 -- the rays of a complete dual pair with primitive vectors
-pub dual_rays : (w : ℕ) (ps : List Pair) → IsDualPair w ps → OnlyZero w ps → Each (λ p. IsPrimitive p.vector) ps → AreRays w (map (λ p. p.form) ps) (map (λ p. p.vector) ps)
+pub dual_rays : (w : ℕ) (ps : List Pair) → IsDualPair w ps → OnlyZero w ps → Each (λ p. IsPrimitive p.vector) ps → AreExtremeRays w (map (λ p. p.form) ps) (map (λ p. p.vector) ps)
 dual_rays w ps d o i = record { description = described_by_dual w ps d o; primitive = each_of_map (λ (p : Pair). p.vector) IsPrimitive ps i; extreme = dual_extreme w ps d o }
 
 pub dual_pointed : (w : ℕ) (ps : List Pair) → OnlyZero w ps → IsPointed w (map (λ p. p.form) ps)
@@ -86,7 +86,7 @@ pub record HaveSameMembers (xs ys : List Vector) : Type 0 where
 pub each_of_members : (P : Vector → Type 0) (xs ys : List Vector) → Each (Contains xs) ys → Each P xs → Each P ys
 each_of_members P xs ys c s = each_map (Contains xs) P ys (λ y k. Each-contains P xs y s k) c
 
-pub rays_of_members : (w : ℕ) (rows others rays : List Vector) → HaveSameMembers rows others → AreRays w rows rays → AreRays w others rays
+pub rays_of_members : (w : ℕ) (rows others rays : List Vector) → HaveSameMembers rows others → AreExtremeRays w rows rays → AreExtremeRays w others rays
 rays_of_members w rows others rays m r =
     let d = r.description in
     let lo : Each (HasWidth w) others = each_of_members (λ v. length v ≡ w) rows others m.back d.row_widths in

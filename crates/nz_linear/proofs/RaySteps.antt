@@ -9,7 +9,7 @@ use Rattle.nz_linear.specs.Cones.{Satisfies, meet}
 use Rattle.nz_linear.specs.Division.{IsPrimitiveOf}
 use Rattle.nz_linear.specs.Extreme.{VanishesWith, IsPointed}
 use Rattle.nz_linear.specs.DoubleDescription.{HasThird, IsExtremeByZeros}
-use Rattle.nz_linear.specs.RayStep.{AreRays, IsFromPair, IsKept, HasSum, HasOther, IsRayStep}
+use Rattle.nz_linear.specs.RayStep.{AreExtremeRays, IsFromPair, IsKept, HasSum, HasOther, IsRayStep}
 use Rattle.nz_linear.proofs.Ring.{sums}
 use Rattle.nz_linear.proofs.Signs.{mul_is_nonneg, mul_is_zero}
 use Rattle.nz_linear.proofs.Lists.{each_map, each_map2}
@@ -52,14 +52,14 @@ record Known (w : ℕ) (rows : List Vector) (x : Vector) : Type 0 where
   primitive : IsPrimitive x
   extreme : IsExtremeByZeros w rows x
 
-known : (w : ℕ) (rows rays : List Vector) → AreRays w rows rays → Each (Known w rows) rays
+known : (w : ℕ) (rows rays : List Vector) → AreExtremeRays w rows rays → Each (Known w rows) rays
 known w rows rays r =
     each_map2 (λ x. (length x ≡ w) × Satisfies rows x) (λ x. IsPrimitive x × IsExtremeByZeros w rows x) (Known w rows) rays (λ x a b. record { width = a.0; inside = a.1; primitive = b.0; extreme = b.1 })
     (each_map2 (λ x. length x ≡ w) (Satisfies rows) (λ x. (length x ≡ w) × Satisfies rows x) rays (λ x a b. (a, b)) r.description.ray_widths r.description.sound)
     (each_map2 IsPrimitive (IsExtremeByZeros w rows) (λ x. IsPrimitive x × IsExtremeByZeros w rows x) rays (λ x a b. (a, b)) r.primitive r.extreme)
 
 -- the new rays
-new_known : (w : ℕ) (h : Vector) (rows rays cut : List Vector) → AreRays w rows rays → IsRayStep h rows rays cut → Each (Known w (h ∷ rows)) cut
+new_known : (w : ℕ) (h : Vector) (rows rays cut : List Vector) → AreExtremeRays w rows rays → IsRayStep h rows rays cut → Each (Known w (h ∷ rows)) cut
 new_known w h rows rays cut r s = each_map (λ x. IsKept h rays x ⊎ IsFromPair h rows rays x) (Known w (h ∷ rows)) cut
     (λ x k. elim k [
       | inl a ↦ (let o = Each-contains (Known w rows) rays x (known w rows rays r) a.has in
@@ -76,7 +76,7 @@ new_known w h rows rays cut r s = each_map (λ x. IsKept h rays x ⊎ IsFromPair
           })
     ]) s.only
 
-pub ray_step : (w : ℕ) (h : Vector) (rows rays cut : List Vector) → length h ≡ w → IsPointed w (h ∷ rows) → AreRays w rows rays → IsRayStep h rows rays cut → AreRays w (h ∷ rows) cut
+pub ray_step : (w : ℕ) (h : Vector) (rows rays cut : List Vector) → length h ≡ w → IsPointed w (h ∷ rows) → AreExtremeRays w rows rays → IsRayStep h rows rays cut → AreExtremeRays w (h ∷ rows) cut
 ray_step w h rows rays cut lh pt r s =
     let new = new_known w h rows rays cut r s in
     let old = known w rows rays r in

@@ -1,12 +1,7 @@
--- Floor division, greatest common divisors, primitive vectors.
-use Rattle.std.specs.Prelude.{◌≡◌, ℤ, pos, ◌+ℤ◌, ◌*ℤ◌, ◌≤ℤ◌, ◌<ℤ◌}
+-- Greatest common divisors and primitive vectors.
+use Rattle.std.specs.Prelude.{◌≡◌, ℤ, pos, ◌≤ℤ◌, ◌<ℤ◌}
 use Rattle.std.specs.List.{AllByRecursion as Each}
 use Rattle.nz_spec.specs.Vectors.{Vector, dot, scaled, IsMultipleOf, IsPrimitive}
-
--- q is the greatest integer whose product with d is at most x; d is positive
-pub record IsFloor (x d q : ℤ) : Type 0 where
-  pub below : (q *ℤ d) ≤ℤ x
-  pub above : x <ℤ (q *ℤ d +ℤ d)
 
 -- g divides each entry, and is a combination of them
 pub record IsGcdOf (g : ℤ) (xs : Vector) : Type 0 where

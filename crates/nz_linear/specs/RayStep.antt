@@ -7,7 +7,7 @@ use Rattle.nz_linear.specs.Division.{IsPrimitiveOf}
 use Rattle.nz_linear.specs.DoubleDescription.{IsExtremeByZeros, AreAdjacent}
 
 -- the rays describe the rows; each is primitive and extreme
-pub record AreRays (w : ℕ) (rows rays : List Vector) : Type 0 where
+pub record AreExtremeRays (w : ℕ) (rows rays : List Vector) : Type 0 where
   pub description : IsDoubleDescription w rows rays
   pub primitive : Each IsPrimitive rays
   pub extreme : Each (IsExtremeByZeros w rows) rays
