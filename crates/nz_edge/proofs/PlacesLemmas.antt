@@ -1,11 +1,10 @@
 -- Files in a list, by name: what a change of one, and one more, leave.
-use Rattle.std.proofs.Common.{◌≡◌, ◌≢◌, ℕ, zero, suc, ◌+◌, ◌<◌, ◌⊎◌, inl, inr, List, [], ◌∷◌, ◌++◌, length, get_or, set, refl, sym, ap, ◌∙◌, Option, Some, None, Bool, true, false, cond, arith, Decides, subst, add-one}
+use Rattle.std.proofs.Common.{◌≡◌, ℕ, zero, suc, ◌+◌, ◌<◌, ◌⊎◌, inl, inr, List, [], ◌∷◌, ◌++◌, length, get_or, set, refl, sym, ap, ◌∙◌, Some, None, Bool, true, false, cond, arith, subst}
 use Rattle.std.specs.Str.{bytes_eq}
 use Rattle.std.specs.Prelude.{string_bytes}
 use Rattle.std.proofs.lemmas.Slice.Eq.{bytes_eq-Decides}
-use Rattle.std.proofs.lemmas.Bool.{false≢true}
 use Rattle.nz_vec.specs.Texts.{Text}
-use Rattle.nz_edge.specs.Folders.{Stores, SameOthers}
+use Rattle.nz_edge.specs.Folders.{Stores}
 use Rattle.nz_edge.specs.Places.{Named, find_file, place_from}
 
 -- the first file of this name stands at k
@@ -24,16 +23,16 @@ some_eq e = cc
 pub place_at : (n : ℕ) (fs : List Named) (name : Text) (i : ℕ) → place_from n fs name ≡ Some i → (k : ℕ) × (i ≡ n + k) × IsAt fs name k
 place_at n [] name i e = absurd cc
 place_at n (f ∷ fs) name i e = elim (which (bytes_eq (string_bytes f.0) name)) [
-    inl is ↦ (0, (let h = rw is at e in let g : n ≡ i = some_eq h in omega arith), is)
+  | inl is ↦ (0, (let h = rw is at e in let g : n ≡ i = some_eq h in omega arith), is)
   | inr isnt ↦ (let h = rw isnt at e in let r = place_at (suc n) fs name i h in (suc r.0, (let g = r.1 in omega arith), (isnt, r.2)))
-  ]
+]
 
 pub place_none : (n : ℕ) (fs : List Named) (name : Text) → place_from n fs name ≡ None → find_file fs name ≡ None
 place_none n [] name e = refl
 place_none n (f ∷ fs) name e = elim (which (bytes_eq (string_bytes f.0) name)) [
-    inl is ↦ (let h = rw is at e in absurd cc)
+  | inl is ↦ (let h = rw is at e in absurd cc)
   | inr isnt ↦ (let h = rw isnt at e in rw isnt (place_none (suc n) fs name h))
-  ]
+]
 
 pub IsAt-length : (fs : List Named) (name : Text) (k : ℕ) → IsAt fs name k → k < length fs
 IsAt-length [] name k h = absurd h
@@ -51,9 +50,9 @@ stores_set [] name k d new h e = absurd h
 stores_set (f ∷ fs) name zero d new h e = record {
   stored = rw (e, h) refl;
   others = λ other ne. elim (which (bytes_eq (string_bytes f.0) other)) [
-      inl is ↦ absurd (ne (sym ((bytes_eq-Decides (string_bytes f.0) other).0 is) ∙ (bytes_eq-Decides (string_bytes f.0) name).0 h))
+    | inl is ↦ absurd (ne (sym ((bytes_eq-Decides (string_bytes f.0) other).0 is) ∙ (bytes_eq-Decides (string_bytes f.0) name).0 h))
     | inr isnt ↦ rw (e, isnt) refl
-    ];
+  ];
 }
 stores_set (f ∷ fs) name (suc k) d new h e =
     let r = stores_set fs name k d new h.1 e in
@@ -65,9 +64,9 @@ stores_set (f ∷ fs) name (suc k) d new h e =
 find_append : (fs : List Named) (new : Named) (name : Text) → find_file fs name ≡ None → find_file (fs ++ new ∷ []) name ≡ find_file (new ∷ []) name
 find_append [] new name e = refl
 find_append (f ∷ fs) new name e = elim (which (bytes_eq (string_bytes f.0) name)) [
-    inl is ↦ (let h = rw is at e in absurd cc)
+  | inl is ↦ (let h = rw is at e in absurd cc)
   | inr isnt ↦ (let h = rw isnt at e in rw isnt (find_append fs new name h))
-  ]
+]
 
 find_others : (fs : List Named) (new : Named) (other : Text) → bytes_eq (string_bytes new.0) other ≡ false → find_file (fs ++ new ∷ []) other ≡ find_file fs other
 find_others [] new other e = rw e refl
@@ -77,9 +76,9 @@ pub stores_push : (fs : List Named) (name : Text) (new : Named) → find_file fs
 stores_push fs name new none e = record {
   stored = find_append fs new name none ∙ rw ((bytes_eq-Decides (string_bytes new.0) name).1 e) refl;
   others = λ other ne. elim (which (bytes_eq (string_bytes new.0) other)) [
-      inl is ↦ absurd (ne (sym ((bytes_eq-Decides (string_bytes new.0) other).0 is) ∙ e))
+    | inl is ↦ absurd (ne (sym ((bytes_eq-Decides (string_bytes new.0) other).0 is) ∙ e))
     | inr isnt ↦ find_others fs new other isnt
-    ];
+  ];
 }
 
 pub place_found : (fs : List Named) (name : Text) (i : ℕ) → Some i ≡ place_from 0 fs name → IsAt fs name i

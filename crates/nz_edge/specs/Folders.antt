@@ -1,5 +1,5 @@
 -- Files by name, and what a change leaves of them.
-use Rattle.std.specs.Prelude.{◌≡◌, ◌≢◌, List, ℕ, Option, Some, None}
+use Rattle.std.specs.Prelude.{◌≡◌, ◌≢◌, Option, Some, None}
 use Rattle.nz_vec.specs.Texts.{Text}
 
 -- what stands under each name

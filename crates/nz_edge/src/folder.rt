@@ -1,6 +1,6 @@
 ghost use Rattle.std.specs.Prelude.{◌≡◌, ◌≤◌, ◌<◌, ◌^◌, ℕ, List, Option};
 ghost use Rattle.nz_edge.specs.Folders.{Files, BothTold, SameFiles};
-ghost use Rattle.nz_edge.specs.Answers.{LoadGives, LoadCause, StoreLeaves, StoreCause, OnTold};
+ghost use Rattle.nz_edge.specs.Answers.{LoadGives, LoadBound, LoadCause, StoreLeaves, StoreCause, OnTold};
 
 use nz_vec::Bytes;
 use std::alloc::Global;
@@ -8,8 +8,11 @@ use std::alloc::Global;
 /// What a load answers.
 #[derive(Drop)]
 pub enum Load {
+    /// The first bytes of the file.
     Bytes(Bytes),
+    /// No file has this name.
     Absent,
+    /// The file could not be read.
     Failed,
     NoMemory,
 }
@@ -18,11 +21,15 @@ pub enum Load {
 #[derive(Clone, Copy, Debug, PartialEq, Eq)]
 pub enum Stored {
     Done,
+    /// What stands under the name is not known now: it may be a part of the bytes.
     Failed,
     NoMemory,
 }
 
-/// A folder of files.
+/// A folder of files, by name.
+///
+/// No contract can say what a disk holds, so `files` is there only where a folder tells it. The three counts are what a caller of any
+/// folder may rest on: each keeps at its last value, 2^64 - 1, so that "it rose" has a meaning after so many events too.
 pub trait Folder {
     /// The files, where it tells them.
     ghost files: { Self → Option Files };
@@ -36,11 +43,12 @@ pub trait Folder {
     /// How often storing failed.
     ghost store_faults: { Self → ℕ };
 
-    /// The first `most + 1` bytes of a file, or all where there are fewer.
+    /// The first `most + 1` bytes of a file, or all where there are fewer: one more than a caller can use, so that it sees a file that is too long.
     fn load(&mut self, alloc: Global, name: &str, most: usize) -> Load
         requires { most < 2 ^ 32 }
         ensures files { BothTold (files self.old) (files self.new) SameFiles }
-        ensures gives { OnTold (files self.old) (λ at. LoadGives at name.now most result) }
+        ensures gives { OnTold (files self.old) (λ at. LoadGives at name.now most (faults self.old) (faults self.new) result) }
+        ensures bounded { LoadBound most result }
         ensures cause { LoadCause (faults self.old) (faults self.new) (misses self.old) (misses self.new) result }
         ensures faults_later { faults self.old ≤ faults self.new }
         ensures misses_later { misses self.old ≤ misses self.new }

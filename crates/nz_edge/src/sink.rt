@@ -3,14 +3,16 @@ ghost use Rattle.nz_edge.specs.Counts.{Rose};
 ghost use Rattle.nz_edge.specs.Folders.{BothTold};
 ghost use Rattle.nz_edge.specs.Answers.{Takes, WroteCause, PutAll};
 
-/// What a write answers: how many bytes were taken.
+/// What a write answers.
 #[derive(Clone, Copy, Debug, PartialEq, Eq)]
 pub enum Wrote {
+    /// So many first bytes of the piece.
     Took(usize),
+    /// None.
     Failed,
 }
 
-/// A console.
+/// A console, which takes bytes in pieces of its own choice.
 pub trait Sink {
     /// The bytes written so far, where it tells them.
     ghost written: { Self → Option (List ℕ) };
@@ -25,7 +27,7 @@ pub trait Sink {
         ensures later { faults self.old ≤ faults self.new };
 }
 
-/// Writes the bytes piece by piece. The answer false comes only where a write failed.
+/// Writes the bytes, piece by piece. After the answer false some first ones of them were written.
 pub fn put_all<S: Sink>(sink: &mut S, bytes: &[u8]) -> bool
     ensures written { BothTold (S.written sink.old) (S.written sink.new) (λ old new. PutAll old new bytes.now result) }
     ensures cause { IsFalse result → Rose (S.faults sink.old) (S.faults sink.new) }

@@ -1,8 +1,10 @@
-ghost use Rattle.std.specs.Prelude.{◌≡◌, ◌≤◌, ◌<◌, ◌∷◌, [], ℕ, List, Option, IsTrue, IsFalse, option_copied, None};
+ghost use Rattle.std.specs.Prelude.{◌≡◌, ◌≤◌, ◌<◌, ℕ, List, Option, IsFalse, None};
 ghost use Rattle.nz_edge.specs.Counts.{Rose};
-ghost use Rattle.nz_edge.specs.Answers.{Tells, Waits, told_at};
+ghost use Rattle.nz_edge.specs.Watching.{Tells, Waits, told_at};
 
-/// What is told of each stage of a run, and may stop it.
+/// What is told of each stage of a run, and may stop it between two stages.
+///
+/// A stage has a number and a list of vectors, of which the watch is told the size.
 pub trait Watch: Drop {
     /// The pairs told so far, where it tells them.
     ghost told: { Self → Option (List (ℕ × ℕ)) };
@@ -21,7 +23,7 @@ pub trait Watch: Drop {
         ensures always { stops self.old < stops self.new → IsFalse result }
         ensures later { stops self.old ≤ stops self.new };
 
-    /// The pair told at this place.
+    /// The pair told at this place, from 0, where the watch tells and has one there.
     fn pair(&self, place: usize) -> Option<(u64, u64)>
         ensures { result ≡ told_at (told self.now) place };
 }
