@@ -1,0 +1,7 @@
+use Rattle.std.proofs.Common.{◌≡◌, ◌<◌, length, arith, get_or, pos, ◌≤ℤ◌, ◌<ℤ◌, rules}
+use Rattle.std.proofs.lemmas.Int.{ints}
+use Rattle.nz_box.proofs.Searching.{zip_from, zip_at}
+use Rattle.nz_box.proofs.point.is_below.Goals as goal
+
+pub returns : goal.returns
+returns c = zip_from c.args.row.now c.args.point.now c.requires (λ k l. c.loop-column.invariant k (omega (arith, c.requires)))
