@@ -12,7 +12,7 @@ use Rattle.nz_linear.proofs.Signs.{signed, mul_pos}
 use Rattle.nz_linear.proofs.Lists.{each_map, each_left, each_right, each_remove, each_of_map, map_each, zip_map}
 use Rattle.nz_spec.proofs.VectorLaws.{dot-scaled, dot-zero, scaled-zero, scaled-plus, scaled-scaled}
 use Rattle.nz_linear.proofs.VectorLaws.{length-scaled, scaled-dot, dot_comm, cancel_scaled}
-use Rattle.nz_linear.proofs.DualPairs.{product_positive, length-spread, dual_right}
+use Rattle.nz_linear.proofs.DualPairs.{product_positive, length-spread, dual_left, dual_right}
 use Rattle.nz_linear.proofs.Elimination.{spread_vanishes, pivot_keeps}
 use Rattle.nz_linear.proofs.EliminationRun.{start_state, find_pivot, clear, clear_is}
 use Rattle.nz_linear.proofs.DualCone.{swap, swapped_widths, swapped_product, spread_moves, form_expansion}
@@ -130,10 +130,6 @@ counted w (p ∷ qs) h d =
             together = omega arith;
           })
     ]
-  where
-    dual_left : (xs ys : List Pair) → IsDual (xs ++ ys) → IsDual xs
-    dual_left [] ys k = tt
-    dual_left (x ∷ xs) ys k = (k.0, each_left (IsApart x) xs ys k.1, dual_left xs ys k.2)
 
 pub dual_length : (w : ℕ) (ps : List Pair) → IsDualPair w ps → length ps ≤ w
 dual_length w ps d = let c = counted w ps d.widths d.dual in let m = c.as_many in let t = c.together in omega arith

@@ -22,4 +22,6 @@ pub mod Distinct
 pub mod Dependence
 pub mod Groups
 pub mod DualCone
+pub mod Spans
+pub mod Rank
 pub mod Recipes
