@@ -24,4 +24,5 @@ pub mod Groups
 pub mod DualCone
 pub mod Spans
 pub mod Rank
+pub mod Units
 pub mod Recipes

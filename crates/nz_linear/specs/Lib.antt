@@ -5,3 +5,4 @@ pub mod Cones
 pub mod Extreme
 pub mod DoubleDescription
 pub mod RayStep
+pub mod Echelon
