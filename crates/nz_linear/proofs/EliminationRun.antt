@@ -101,7 +101,7 @@ abbrev pub turned : (h : Vector) (ps : List Pair) → FoundPivot h ps → Vector
 turned h ps f = scaled (signed (dot h f.pivot.vector) f.nonzero).sign f.pivot.vector
 
 -- the step at a pivot that was found
-pub found_step : (w : ℕ) (h : Vector) (rows : List Vector) (chosen free : List Pair) (f : FoundPivot h free) → IsState w rows chosen free
+abbrev pub found_step : (w : ℕ) (h : Vector) (rows : List Vector) (chosen free : List Pair) (f : FoundPivot h free) → IsState w rows chosen free
     → IsPivotStep w h chosen free (pair_of h (turned h free f) ∷ map (clear h (turned h free f)) chosen) (map (clear h (turned h free f)) (f.before ++ f.after))
 found_step w h rows chosen free f s =
     let g = signed (dot h f.pivot.vector) f.nonzero in

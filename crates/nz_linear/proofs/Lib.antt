@@ -25,4 +25,7 @@ pub mod DualCone
 pub mod Spans
 pub mod Rank
 pub mod Units
+pub mod NormalForms
+pub mod Echelon
+pub mod KeyColumns
 pub mod Recipes

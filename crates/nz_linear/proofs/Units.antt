@@ -1,16 +1,16 @@
 -- Entries of vectors: unit vectors, the first and the last entry that is not 0.
-use Rattle.std.proofs.Common.{◌≡◌, ◌≢◌, ◌⊎◌, inl, inr, ℕ, zero, suc, ◌<◌, List, [], ◌∷◌, length, map, pos, ◌*ℤ◌, refl, ap, ◌∙◌, arith}
+use Rattle.std.proofs.Common.{◌≡◌, ◌≢◌, ◌⊎◌, inl, inr, ℕ, zero, suc, ◌<◌, List, [], ◌∷◌, length, map, ℤ, pos, ◌*ℤ◌, refl, sym, ap, ◌∙◌, arith}
 use Rattle.std.proofs.Math.IntN.{*ℤ-zero}
 use Rattle.std.specs.List.{Contains}
-use Rattle.nz_spec.specs.Vectors.{Vector, dot, zero_vector, entry, unit_vectors, HasWidth, IsZero}
+use Rattle.nz_spec.specs.Vectors.{Vector, dot, scaled, zero_vector, entry, unit_vectors, HasWidth, IsZero}
 use Rattle.nz_spec.specs.Forms.{LeadsAt}
 use Rattle.nz_spec.proofs.IntLaws.{zero_product}
-use Rattle.nz_spec.proofs.VectorLaws.{dot-zero, dot-IsZero}
+use Rattle.nz_spec.proofs.VectorLaws.{dot-scaled, dot-zero, dot-IsZero}
 use Rattle.nz_spec.proofs.SumLaws.{length-zero_vector}
 use Rattle.nz_spec.proofs.ListLaws.{contains_here, contains_there}
 use Rattle.nz_linear.proofs.Ring.{sums, mul-one}
 use Rattle.nz_linear.proofs.Signs.{int_zero_or_not}
-use Rattle.nz_linear.proofs.VectorLaws.{dot_comm}
+use Rattle.nz_linear.proofs.VectorLaws.{dot_comm, length-scaled}
 use Rattle.nz_linear.specs.Echelon.{unit_at, EndsAt}
 
 -- ---- unit vectors
@@ -29,7 +29,7 @@ dot-unit_at (suc w) (suc j) (a ∷ f) h = omega (arith, sums, *ℤ-zero a, dot-u
 pub unit_at-dot : (w j : ℕ) (x : Vector) → HasWidth w x → dot (unit_at w j) x ≡ entry x j
 unit_at-dot w j x h = dot_comm (unit_at w j) x ∙ dot-unit_at w j x h
 
-entry-zero_vector : (w j : ℕ) → entry (zero_vector w) j ≡ pos 0
+pub entry-zero_vector : (w j : ℕ) → entry (zero_vector w) j ≡ pos 0
 entry-zero_vector zero j = refl
 entry-zero_vector (suc w) zero = refl
 entry-zero_vector (suc w) (suc j) = entry-zero_vector w j
@@ -55,6 +55,9 @@ unit_at_listed (suc w) (suc j) h = contains_there (pos 1 ∷ zero_vector w) (pos
     contains_mapped [] u (k, h, e) = absurd (omega arith)
     contains_mapped (v ∷ us) u (zero, h, e) = (zero, omega arith, ap (λ t. pos 0 ∷ t) e)
     contains_mapped (v ∷ us) u (suc k, h, e) = contains_there (pos 0 ∷ v) (pos 0 ∷ u) _ (contains_mapped us u (k, omega arith, e))
+
+pub entry-scaled : (w : ℕ) (k : ℤ) (x : Vector) (j : ℕ) → HasWidth w x → entry (scaled k x) j ≡ k *ℤ entry x j
+entry-scaled w k x j l = sym (unit_at-dot w j (scaled k x) (length-scaled w k x l)) ∙ dot-scaled (unit_at w j) k x ∙ ap (λ t. k *ℤ t) (unit_at-dot w j x l)
 
 -- ---- the first and the last nonzero entry
 pub zero_entries : (x : Vector) → ((j : ℕ) → entry x j ≡ pos 0) → IsZero x
