@@ -83,7 +83,7 @@ ring_below : (m k H N R q p r : ℤ) → m *ℤ (H *ℤ r +ℤ R *ℤ p) ≡ k *
 ring_below m k H N R q p r e = let f = simp ring_z at e in simp ring_z (omega (arith, sums, f))
 
 -- the values of two vectors of which multiples are the same
-same_at : (m k : ℤ) (x y : Vector) → scaled m x ≡ scaled k y → (a : Vector) → m *ℤ dot a x ≡ k *ℤ dot a y
+pub same_at : (m k : ℤ) (x y : Vector) → scaled m x ≡ scaled k y → (a : Vector) → m *ℤ dot a x ≡ k *ℤ dot a y
 same_at m k x y e a = sym (dot-scaled a m x) ∙ ap (dot a) e ∙ dot-scaled a k y
 
 -- the sum of a pair with a third ray is split

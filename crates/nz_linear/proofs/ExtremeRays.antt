@@ -24,12 +24,12 @@ pub kept_extreme : (w : ℕ) (h : Vector) (rows : List Vector) (x : Vector) → 
 kept_extreme w h rows x e y ly s v = e y ly s.1 v.1
 
 -- a sum of two vectors with factors of at least 0
-record IsBetween (w : ℕ) (p n y : Vector) : Type 0 where
-  at_p : ℤ
-  at_n : ℤ
-  nonneg_p : pos 0 ≤ℤ at_p
-  nonneg_n : pos 0 ≤ℤ at_n
-  same : y ≡ plus (scaled at_p p) (scaled at_n n)
+pub record IsBetween (w : ℕ) (p n y : Vector) : Type 0 where
+  pub at_p : ℤ
+  pub at_n : ℤ
+  pub nonneg_p : pos 0 ≤ℤ at_p
+  pub nonneg_n : pos 0 ≤ℤ at_n
+  pub same : y ≡ plus (scaled at_p p) (scaled at_n n)
 
 more_p : (w : ℕ) (p n y : Vector) (c : ℤ) → length p ≡ w → length n ≡ w → pos 0 ≤ℤ c → IsBetween w p n y → IsBetween w p n (plus (scaled c p) y)
 more_p w p n y c lp ln h b = record {
@@ -59,7 +59,7 @@ between_zero w p n lp ln = record {
 }
 
 -- a sum of rays that vanishes where p and n do is between them
-between : (w : ℕ) (rows : List Vector) (p n : Vector) (cs : List ℤ) (gs : List Vector) → length p ≡ w → length n ≡ w → Each (HasWidth w) rows → Each (λ c. pos 0 ≤ℤ c) cs → Each (HasWidth w) gs → Each (Satisfies rows) gs
+pub between : (w : ℕ) (rows : List Vector) (p n : Vector) (cs : List ℤ) (gs : List Vector) → length p ≡ w → length n ≡ w → Each (HasWidth w) rows → Each (λ c. pos 0 ≤ℤ c) cs → Each (HasWidth w) gs → Each (Satisfies rows) gs
     → AreAdjacent rows gs p n → Each (λ a. dot a p ≡ pos 0 → dot a n ≡ pos 0 → dot a (combination w cs gs) ≡ pos 0) rows → IsBetween w p n (combination w cs gs)
 between w rows p n [] gs lp ln lr k l s adj z = between_zero w p n lp ln
 between w rows p n (c ∷ cs) [] lp ln lr k l s adj z = between_zero w p n lp ln

@@ -28,4 +28,6 @@ pub mod Units
 pub mod NormalForms
 pub mod Echelon
 pub mod KeyColumns
+pub mod Splitting
+pub mod RayExistence
 pub mod Recipes
