@@ -1,5 +1,5 @@
 -- The new rays of a step differ: a sum of an adjacent pair is no old ray, and two sums are the same only if their pairs are.
-use Rattle.std.proofs.Common.{◌≡◌, ◌⊎◌, inl, inr, List, length, ℕ, ℤ, pos, ◌+ℤ◌, ◌*ℤ◌, neg_ℤ, ◌≤ℤ◌, ◌<ℤ◌, sym, ap, ◌∙◌, arith}
+use Rattle.std.proofs.Common.{◌≡◌, ◌⊎◌, inl, inr, List, length, ℕ, pos, ◌*ℤ◌, neg_ℤ, ◌≤ℤ◌, ◌<ℤ◌, sym, ap, ◌∙◌, arith}
 use Rattle.std.proofs.Math.IntN.{*ℤ-zero}
 use Rattle.std.specs.List.{AllByRecursion as Each, Contains}
 use Rattle.nz_spec.specs.Vectors.{Vector, dot}
@@ -7,7 +7,7 @@ use Rattle.nz_spec.proofs.ListLaws.{Each-contains}
 use Rattle.nz_linear.specs.Cones.{Satisfies, meet}
 use Rattle.nz_linear.specs.Division.{IsPrimitiveOf}
 use Rattle.nz_linear.specs.DoubleDescription.{AreAdjacent}
-use Rattle.nz_linear.proofs.Ring.{sums, ring_z}
+use Rattle.nz_linear.proofs.Ring.{cross_gone, sums}
 use Rattle.nz_linear.proofs.Signs.{mul_is_zero}
 use Rattle.nz_linear.proofs.Lists.{each_all, each_map, each_map2}
 use Rattle.nz_linear.proofs.DoubleDescription.{meet_at, both_vanish}
@@ -18,12 +18,9 @@ sum_vanishes : (w : ℕ) (h p n x a : Vector) → length p ≡ w → length n �
 sum_vanishes w h p n x a lp ln i e f =
     mul_is_zero i.factor (dot a x) i.positive (primitive_value (meet h p n) x i a ∙ meet_at w h p n a lp ln ∙ omega (arith, sums, ap (λ t. dot h p *ℤ t) f, ap (λ t. neg_ℤ (dot h n) *ℤ t) e, *ℤ-zero (dot h p), *ℤ-zero (neg_ℤ (dot h n))))
 
-ring_gone : (a b : ℤ) → a *ℤ b +ℤ neg_ℤ b *ℤ a ≡ pos 0
-ring_gone a b = simp ring_z (omega (arith, sums))
-
 -- h vanishes at it
 sum_at : (w : ℕ) (h p n x : Vector) → length p ≡ w → length n ≡ w → IsPrimitiveOf (meet h p n) x → dot h x ≡ pos 0
-sum_at w h p n x lp ln i = mul_is_zero i.factor (dot h x) i.positive (primitive_value (meet h p n) x i h ∙ meet_at w h p n h lp ln ∙ ring_gone (dot h p) (dot h n))
+sum_at w h p n x lp ln i = mul_is_zero i.factor (dot h x) i.positive (primitive_value (meet h p n) x i h ∙ meet_at w h p n h lp ln ∙ cross_gone (dot h p) (dot h n))
 
 pub sum_not_old : (w : ℕ) (h : Vector) (rows rays : List Vector) (p n x : Vector) → length p ≡ w → length n ≡ w → dot h n <ℤ pos 0 → pos 0 <ℤ dot h p → AreAdjacent rows rays p n → IsPrimitiveOf (meet h p n) x → ¬ Contains rays x
 sum_not_old w h rows rays p n x lp ln un up adj i k =

@@ -8,7 +8,7 @@ use Rattle.nz_spec.specs.Vectors.{Vector, dot, plus, scaled, zero_vector}
 use Rattle.nz_spec.proofs.SumLaws.{length-zero_vector}
 use Rattle.nz_linear.specs.DualPairs.{Pair, pair_of, divisor, IsApart, HasWidths, IsDual, IsDualPair, AllVanish, OnlyZero, IsSpace, IsCompleteOn, product, spread}
 use Rattle.nz_linear.specs.Elimination.{IsCleared, IsTurned, IsPivotStep, IsState}
-use Rattle.nz_linear.proofs.Ring.{sums, ring_z}
+use Rattle.nz_linear.proofs.Ring.{cross_gone, sums, ring_z}
 use Rattle.nz_linear.proofs.Signs.{mul_pos, mul_is_zero, mul_is_pos}
 use Rattle.nz_linear.proofs.Lists.{each_map, each_map2, each_right, each_insert, each_remove, zip_append}
 use Rattle.nz_spec.proofs.VectorLaws.{dot-scaled, dot-zero, scaled-zero}
@@ -55,13 +55,10 @@ cleared_positive : (w : ℕ) (h u f : Vector) (r q : Pair) → IsCleared w h u r
 cleared_positive w h u f r q c lu lr z a b =
     mul_is_pos c.factor (dot f q.vector) c.positive (rw (cleared_value w h u f r q c lu lr z) (mul_pos (dot h u) (dot f r.vector) a b))
 
-ring_gone : (a b : ℤ) → a *ℤ b +ℤ neg_ℤ b *ℤ a ≡ pos 0
-ring_gone a b = simp ring_z (omega (arith, sums))
-
 -- at h itself
 cleared_at : (w : ℕ) (h u : Vector) (r q : Pair) → IsCleared w h u r q → length u ≡ w → length r.vector ≡ w → dot h q.vector ≡ pos 0
 cleared_at w h u r q c lu lr =
-    mul_is_zero c.factor (dot h q.vector) c.positive (cleared_at_form w h u h r q c lu lr ∙ ring_gone (dot h u) (dot h r.vector))
+    mul_is_zero c.factor (dot h q.vector) c.positive (cleared_at_form w h u h r q c lu lr ∙ cross_gone (dot h u) (dot h r.vector))
 
 -- ---- clearing keeps a dual pair
 cleared_widths : (w : ℕ) (h u : Vector) (rs qs : List Pair) → AllZip (IsCleared w h u) rs qs → Each (HasWidths w) rs → Each (HasWidths w) qs

@@ -7,7 +7,7 @@ use Rattle.nz_spec.proofs.SumLaws.{length-zero_vector, length-combination}
 use Rattle.nz_spec.proofs.IntLaws.{mul-nonneg}
 use Rattle.nz_linear.specs.Cones.{Satisfies, IsDoubleDescription, meet}
 use Rattle.nz_linear.specs.DoubleDescription.{HaveApartZeros, IsOnRay, IsExtremeByZeros, AreAdjacent}
-use Rattle.nz_linear.proofs.Ring.{sums, ring_z}
+use Rattle.nz_linear.proofs.Ring.{zero_sum, cross_gone, sums, ring_z}
 use Rattle.nz_linear.proofs.Signs.{mul_pos, mul_is_zero, int_zero_or_not, sign_cases}
 use Rattle.nz_linear.proofs.Lists.{each_map, each_map2, each_map3}
 use Rattle.nz_spec.proofs.VectorLaws.{IsZero-zero_vector, dot-scaled, plus_assoc, add-scaled}
@@ -99,7 +99,7 @@ adjacent_extreme w h rows rays p n lp ln d sp sn un up adj y ly sy v =
     let i = generated w rows rays y d ly sy.1 in
     let H = dot h p in
     let N = neg_ℤ (dot h n) in
-    let at_h : dot h (meet h p n) ≡ pos 0 = meet_at w h p n h lp ln ∙ gone H (dot h n) in
+    let at_h : dot h (meet h p n) ≡ pos 0 = meet_at w h p n h lp ln ∙ cross_gone H (dot h n) in
     let hy : dot h y ≡ pos 0 = v.0 at_h in
     let zy : Each (λ a. dot a p ≡ pos 0 → dot a n ≡ pos 0 → dot a y ≡ pos 0) rows = each_map (λ a. dot a (meet h p n) ≡ pos 0 → dot a y ≡ pos 0) (λ a. dot a p ≡ pos 0 → dot a n ≡ pos 0 → dot a y ≡ pos 0) rows
     (λ a f e1 e2. f (meet_at w h p n a lp ln ∙ zero_sum H N (dot a n) (dot a p) e2 e1)) v.1 in
@@ -119,12 +119,6 @@ adjacent_extreme w h rows rays p n lp ln d sp sn un up adj y ly sy v =
           ∙ ap (λ t. b.at_n *ℤ t) (sym (meet_at w h p n a lp ln)) ∙ sym (dot-scaled a b.at_n (meet h p n)));
     }
   where
-    gone : (a b : ℤ) → a *ℤ b +ℤ neg_ℤ b *ℤ a ≡ pos 0
-    gone a b = simp ring_z (omega (arith, sums))
-
-    zero_sum : (c d x y : ℤ) → x ≡ pos 0 → y ≡ pos 0 → c *ℤ x +ℤ d *ℤ y ≡ pos 0
-    zero_sum c d x y e f = omega (arith, sums, ap (λ t. c *ℤ t) e, ap (λ t. d *ℤ t) f, *ℤ-zero c, *ℤ-zero d)
-
     balanced : (z y s : ℤ) → s +ℤ y *ℤ z ≡ pos 0 → s +ℤ y *ℤ neg_ℤ (neg_ℤ z) ≡ pos 0
     balanced z y s e = let f : neg_ℤ (neg_ℤ z) ≡ z = omega (arith, sums) in rw f e
 

@@ -30,4 +30,5 @@ pub mod Echelon
 pub mod KeyColumns
 pub mod Splitting
 pub mod RayExistence
+pub mod SupportForms
 pub mod Recipes

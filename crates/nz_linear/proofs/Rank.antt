@@ -59,7 +59,7 @@ in_chosen_span w seen chosen free x l s z =
     subst (λ (vs : List Vector). IsInSpan w vs x) (swapped_vectors chosen)
     (spread_in_span w (map swap chosen) x x d.dual (ap (λ t. scaled t x) (swapped_product chosen) ∙ dependent_row w x seen chosen free l s z))
 
-chosen_members : (w : ℕ) (seen : List Vector) (chosen free : List Pair) → IsState w seen chosen free → Each (Contains seen) (chosen_rows chosen)
+pub chosen_members : (w : ℕ) (seen : List Vector) (chosen free : List Pair) → IsState w seen chosen free → Each (Contains seen) (chosen_rows chosen)
 chosen_members w seen chosen free s = each_of_map (λ (p : Pair). p.form) (Contains seen) chosen s.from_seen
 
 -- a row seen vanishes at the vectors left

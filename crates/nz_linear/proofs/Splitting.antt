@@ -55,7 +55,7 @@ opposite_is_zero w rows x y m k pt lx sx sy pm nk e =
     subst IsZero (sym (pt x lx vanish)) (IsZero-zero_vector w)
 
 -- a positive number that is at least each value
-enough_of : (rows : List Vector) (y : Vector) → (n : ℤ) × (pos 1 ≤ℤ n) × Each (λ a. dot a y ≤ℤ n) rows
+pub enough_of : (rows : List Vector) (y : Vector) → (n : ℤ) × (pos 1 ≤ℤ n) × Each (λ a. dot a y ≤ℤ n) rows
 enough_of rows y =
     let r = larger_than_all (pos 0 ∷ map (λ a. dot a y) rows) in
     (r.0, (let h = r.1.0 in omega (arith, sums)), each_map (λ a. dot a y <ℤ r.0) (λ a. dot a y ≤ℤ r.0) rows (λ a h. omega (arith, sums)) (map_each (λ a. dot a y) (λ t. t <ℤ r.0) rows r.1.1))

@@ -1,8 +1,8 @@
 -- Entries of vectors: unit vectors, the first and the last entry that is not 0.
-use Rattle.std.proofs.Common.{◌≡◌, ◌≢◌, ◌⊎◌, inl, inr, ℕ, zero, suc, ◌<◌, List, [], ◌∷◌, length, map, ℤ, pos, ◌*ℤ◌, refl, sym, ap, ◌∙◌, arith}
+use Rattle.std.proofs.Common.{◌≡◌, ◌≢◌, ◌⊎◌, inl, inr, ℕ, zero, suc, ◌<◌, List, [], ◌∷◌, length, map, ℤ, pos, ◌+ℤ◌, ◌*ℤ◌, refl, sym, ap, ap₂, ◌∙◌, arith}
 use Rattle.std.proofs.Math.IntN.{*ℤ-zero}
 use Rattle.std.specs.List.{Contains}
-use Rattle.nz_spec.specs.Vectors.{Vector, dot, scaled, zero_vector, entry, unit_vectors, HasWidth, IsZero}
+use Rattle.nz_spec.specs.Vectors.{Vector, dot, plus, scaled, zero_vector, entry, unit_vectors, HasWidth, IsZero}
 use Rattle.nz_spec.specs.Forms.{LeadsAt}
 use Rattle.nz_spec.proofs.IntLaws.{zero_product}
 use Rattle.nz_spec.proofs.VectorLaws.{dot-scaled, dot-zero, dot-IsZero}
@@ -10,7 +10,7 @@ use Rattle.nz_spec.proofs.SumLaws.{length-zero_vector}
 use Rattle.nz_spec.proofs.ListLaws.{contains_here, contains_there}
 use Rattle.nz_linear.proofs.Ring.{sums, mul-one}
 use Rattle.nz_linear.proofs.Signs.{int_zero_or_not}
-use Rattle.nz_linear.proofs.VectorLaws.{dot_comm, length-scaled}
+use Rattle.nz_linear.proofs.VectorLaws.{dot_comm, length-scaled, length-plus, dot-plus}
 use Rattle.nz_linear.specs.Echelon.{unit_at, EndsAt}
 
 -- ---- unit vectors
@@ -58,6 +58,12 @@ unit_at_listed (suc w) (suc j) h = contains_there (pos 1 ∷ zero_vector w) (pos
 
 pub entry-scaled : (w : ℕ) (k : ℤ) (x : Vector) (j : ℕ) → HasWidth w x → entry (scaled k x) j ≡ k *ℤ entry x j
 entry-scaled w k x j l = sym (unit_at-dot w j (scaled k x) (length-scaled w k x l)) ∙ dot-scaled (unit_at w j) k x ∙ ap (λ t. k *ℤ t) (unit_at-dot w j x l)
+
+pub entry_sum : (w : ℕ) (k : ℤ) (x y : Vector) (j : ℕ) → HasWidth w x → HasWidth w y → entry (plus (scaled k x) y) j ≡ k *ℤ entry x j +ℤ entry y j
+entry_sum w k x y j lx ly =
+    let e = unit_at w j in
+    let ls = length-scaled w k x lx in
+    sym (unit_at-dot w j (plus (scaled k x) y) (length-plus w (scaled k x) y ls ly)) ∙ dot-plus w e (scaled k x) y ls ly ∙ ap₂ ◌+ℤ◌ (dot-scaled e k x ∙ ap (λ t. k *ℤ t) (unit_at-dot w j x lx)) (unit_at-dot w j y ly)
 
 -- ---- the first and the last nonzero entry
 pub zero_entries : (x : Vector) → ((j : ℕ) → entry x j ≡ pos 0) → IsZero x

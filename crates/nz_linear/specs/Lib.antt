@@ -6,3 +6,4 @@ pub mod Extreme
 pub mod DoubleDescription
 pub mod RayStep
 pub mod Echelon
+pub mod Facets
