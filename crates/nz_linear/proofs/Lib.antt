@@ -31,4 +31,6 @@ pub mod KeyColumns
 pub mod Splitting
 pub mod RayExistence
 pub mod SupportForms
+pub mod FacetRows
+pub mod DescribedCone
 pub mod Recipes
