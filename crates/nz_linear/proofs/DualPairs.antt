@@ -90,7 +90,7 @@ length-factors [] x = refl
 length-factors (p ∷ ps) x = ap suc (length-scaled (length ps) (divisor p) (spread_factors ps x) (length-factors ps x))
 
 -- ---- independence
-widths_of_vectors : (w : ℕ) (ps : List Pair) → Each (HasWidths w) ps → Each (HasWidth w) (map (λ p. p.vector) ps)
+pub widths_of_vectors : (w : ℕ) (ps : List Pair) → Each (HasWidths w) ps → Each (HasWidth w) (map (λ p. p.vector) ps)
 widths_of_vectors w [] h = tt
 widths_of_vectors w (p ∷ ps) h = (h.0.vector_width, widths_of_vectors w ps h.1)
 

@@ -33,4 +33,6 @@ pub mod RayExistence
 pub mod SupportForms
 pub mod FacetRows
 pub mod DescribedCone
+pub mod NeededForms
+pub mod Floors
 pub mod Recipes

@@ -17,7 +17,7 @@ use Rattle.nz_linear.specs.DualPairs.{Pair, pair_of, IsApart, HasWidths, AllVani
 use Rattle.nz_linear.specs.Elimination.{IsState}
 use Rattle.nz_linear.specs.DoubleDescription.{IsOnRay}
 use Rattle.nz_linear.specs.Facets.{IsValidForm, IsExtremeForm}
-use Rattle.nz_linear.proofs.Ring.{cross_gone, sums, ring_z, mul-one, neg-mul}
+use Rattle.nz_linear.proofs.Ring.{zero_sum, cross_gone, sums, ring_z, mul-one, neg-mul}
 use Rattle.nz_linear.proofs.Signs.{mul_le, cancel_mul, int_zero_or_not}
 use Rattle.nz_linear.proofs.Lists.{each_map, each_map2, each_map3, each_append, each_right}
 use Rattle.nz_linear.proofs.VectorLaws.{length-plus, length-scaled, dot-plus, plus-dot, scaled-dot, dot_comm, scaled_is_zero, same_values}
@@ -222,8 +222,9 @@ support_of_extreme w G f lG v p e =
 pub support_is_valid : (w : ℕ) (G : List Vector) (f : Vector) → IsSupportForm w G f → IsValidForm w G f
 support_is_valid w G f s = record { width = s.width; at_least = s.at_least; zero_at = s.zero_at }
 
-pub extreme_of_support : (w : ℕ) (G : List Vector) (f : Vector) → Each (HasWidth w) G → IsSupportForm w G f → IsExtremeForm w G f
-extreme_of_support w G f lG s y v z = elim (zero_or_positive f G s.at_least) [
+-- a valid form that is 0 on the facet of a support form is on its ray
+pub on_ray_by_facet : (w : ℕ) (G : List Vector) (f y : Vector) → Each (HasWidth w) G → (s : IsSupportForm w G f) → IsValidForm w G y → Each (λ u. dot y u ≡ pos 0) s.facet.vectors → IsOnRay f y
+on_ray_by_facet w G f y lG s v z = elim (zero_or_positive f G s.at_least) [
   | inl all ↦ absurd (s.not_all all)
   | inr t ↦ by t
 ]
@@ -241,8 +242,7 @@ extreme_of_support w G f lG s y v z = elim (zero_or_positive f G s.at_least) [
         let free : IsIndependent w (g ∷ c.vectors) = independent_more w f g c.vectors lg lv (λ e. let p = t.positive in omega (arith, sums)) c.zero_on c.independent in
         let zero_on : Each (λ u. dot d u ≡ pos 0) (g ∷ c.vectors) = (
           value g ∙ cross_gone a b,
-          each_map2 (Contains G) (λ u. dot f u ≡ pos 0) (λ u. dot d u ≡ pos 0) c.vectors
-              (λ u k e. let h = Each-contains (λ x. dot f x ≡ pos 0 → dot y x ≡ pos 0) G u z k e in value u ∙ omega (arith, sums, ap (λ q. a *ℤ q) h, *ℤ-zero a, ap (λ q. neg_ℤ b *ℤ q) e, *ℤ-zero (neg_ℤ b))) c.of_list c.zero_on,
+          each_map2 (λ u. dot y u ≡ pos 0) (λ u. dot f u ≡ pos 0) (λ u. dot d u ≡ pos 0) c.vectors (λ u h e. value u ∙ zero_sum a (neg_ℤ b) (dot y u) (dot f u) h e) z c.zero_on,
         ) in
         let same_on : Each (λ x. a *ℤ dot y x ≡ b *ℤ dot f x) G = Each-from_contains (λ x. a *ℤ dot y x ≡ b *ℤ dot f x) G
         (λ x k.
@@ -256,3 +256,6 @@ extreme_of_support w G f lG s y v z = elim (zero_or_positive f G s.at_least) [
           same = normal_along w G y f a b v.width s.width lG same_on (λ j o. ap (λ q. a *ℤ q) (v.zero_at j o) ∙ *ℤ-zero a ∙ sym (ap (λ q. b *ℤ q) (s.zero_at j o) ∙ *ℤ-zero b));
         }
 
+pub extreme_of_support : (w : ℕ) (G : List Vector) (f : Vector) → Each (HasWidth w) G → IsSupportForm w G f → IsExtremeForm w G f
+extreme_of_support w G f lG s y v z = on_ray_by_facet w G f y lG s v
+    (each_map2 (Contains G) (λ u. dot f u ≡ pos 0) (λ u. dot y u ≡ pos 0) s.facet.vectors (λ u k e. Each-contains (λ x. dot f x ≡ pos 0 → dot y x ≡ pos 0) G u z k e) s.facet.of_list s.facet.zero_on)
