@@ -1,20 +1,21 @@
 -- A row that vanishes at the vectors left is a sum of the chosen rows; a dual pair has at most as many pairs as the width, and a complete one as many.
-use Rattle.std.proofs.Common.{◌≡◌, ℕ, zero, suc, ◌+◌, ◌≤◌, inl, inr, List, [], ◌∷◌, ◌++◌, length, map, ℤ, pos, ◌*ℤ◌, refl, sym, ap, ◌∙◌, subst, arith, length-append}
+use Rattle.std.proofs.Common.{◌≡◌, ℕ, zero, suc, ◌+◌, ◌≤◌, inl, inr, List, [], ◌∷◌, ◌++◌, length, map, ℤ, pos, ◌*ℤ◌, refl, sym, ap, ◌∙◌, arith, length-append}
 use Rattle.std.proofs.Math.IntN.{*ℤ_comm}
 use Rattle.std.proofs.lemmas.List.{length-map}
 use Rattle.std.specs.List.{AllByRecursion as Each, Contains}
 use Rattle.nz_spec.specs.Vectors.{Vector, dot, plus, scaled}
 use Rattle.nz_spec.proofs.ListLaws.{Each-contains}
 use Rattle.nz_linear.specs.DualPairs.{Pair, pair_of, divisor, IsApart, HasWidths, IsDual, IsDualPair, AllVanish, OnlyZero, product, spread}
-use Rattle.nz_linear.specs.Elimination.{IsCleared, IsState, shifted, unit_pairs}
+use Rattle.nz_linear.specs.Elimination.{IsState, shifted, unit_pairs}
 use Rattle.nz_linear.proofs.Ring.{sums, ring_z}
-use Rattle.nz_linear.proofs.Signs.{signed, mul_pos}
-use Rattle.nz_linear.proofs.Lists.{each_map, each_left, each_right, each_remove, each_of_map, map_each, zip_map}
-use Rattle.nz_spec.proofs.VectorLaws.{dot-scaled, dot-zero, scaled-zero, scaled-plus, scaled-scaled}
+use Rattle.nz_linear.proofs.Signs.{mul_pos}
+use Rattle.nz_linear.proofs.Lists.{each_map, each_left, each_right, each_of_map, map_each}
+use Rattle.nz_spec.proofs.VectorLaws.{dot-zero, scaled-zero, scaled-plus, scaled-scaled}
 use Rattle.nz_linear.proofs.VectorLaws.{length-scaled, scaled-dot, dot_comm, cancel_scaled}
-use Rattle.nz_linear.proofs.DualPairs.{product_positive, length-spread, dual_right}
+use Rattle.nz_linear.proofs.DualPairs.{product_positive, length-spread, dual_left, dual_right}
 use Rattle.nz_linear.proofs.Elimination.{spread_vanishes, pivot_keeps}
-use Rattle.nz_linear.proofs.EliminationRun.{start_state, find_pivot, clear, clear_is}
+use Rattle.nz_linear.proofs.Elimination.{pivot_keeps}
+use Rattle.nz_linear.proofs.EliminationRun.{start_state, find_pivot, clear, turned, found_step}
 use Rattle.nz_linear.proofs.DualCone.{swap, swapped_widths, swapped_product, spread_moves, form_expansion}
 
 -- ---- the spread of a list joined of two, where all of the second vanish
@@ -97,43 +98,18 @@ counted w (p ∷ qs) h d =
           let m = mul_pos (product s.chosen) (divisor p) (product_positive s.chosen dc) d.0 in
           omega (arith, sums, v, m))
       | inr t ↦ (
-          let g = signed (dot f t.pivot.vector) t.nonzero in
-          let u = scaled g.sign t.pivot.vector in
-          let chosen = map (clear f u) s.chosen in
-          let free = map (clear f u) (t.before ++ t.after) in
-          let wfree : Each (HasWidths w) (t.before ++ (t.pivot ∷ t.after)) = subst (Each (HasWidths w)) t.split (each_right (HasWidths w) s.chosen s.free wall) in
-          let wrest : Each (HasWidths w) (t.pivot ∷ (t.before ++ t.after)) = each_remove (HasWidths w) t.pivot t.before t.after wfree in
-          let lu : length u ≡ w = length-scaled w g.sign t.pivot.vector wrest.0.vector_width in
-          let n1 : length chosen ≡ length s.chosen = length-map s.chosen (clear f u) in
-          let n2 : length free ≡ length (t.before ++ t.after) = length-map (t.before ++ t.after) (clear f u) in
+          let u = turned f s.free t in
+          let n1 : length (map (clear f u) s.chosen) ≡ length s.chosen = length-map s.chosen (clear f u) in
+          let n2 : length (map (clear f u) (t.before ++ t.after)) ≡ length (t.before ++ t.after) = length-map (t.before ++ t.after) (clear f u) in
           let n3 = length-append t.before t.after in
           let n4 = length-append t.before (t.pivot ∷ t.after) in
           let n5 : length s.free ≡ length (t.before ++ (t.pivot ∷ t.after)) = ap length t.split in
           let n6 = s.as_many in
           let n7 = s.together in
-          record {
-            chosen = pair_of f u ∷ chosen;
-            free = free;
-            state = pivot_keeps w f seen s.chosen s.free (pair_of f u ∷ chosen) free lf s.state (record {
-              before = t.before;
-              pivot = t.pivot;
-              after = t.after;
-              split = t.split;
-              u = u;
-              turned = record { sign = g.sign; same = refl; positive = rw (dot-scaled f g.sign t.pivot.vector) g.positive };
-              cleared = chosen;
-              is_new = refl;
-              clears_chosen = zip_map (IsCleared w f u) (clear f u) (HasWidths w) s.chosen (λ r k. clear_is w f u r lu k) wc;
-              clears_free = zip_map (IsCleared w f u) (clear f u) (HasWidths w) (t.before ++ t.after) (λ r k. clear_is w f u r lu k) wrest.1;
-            });
-            as_many = omega arith;
-            together = omega arith;
-          })
+          let chosen = pair_of f u ∷ map (clear f u) s.chosen in
+          let free = map (clear f u) (t.before ++ t.after) in
+          record { chosen = chosen; free = free; state = pivot_keeps w f seen s.chosen s.free chosen free lf s.state (found_step w f seen s.chosen s.free t s.state); as_many = omega arith; together = omega arith })
     ]
-  where
-    dual_left : (xs ys : List Pair) → IsDual (xs ++ ys) → IsDual xs
-    dual_left [] ys k = tt
-    dual_left (x ∷ xs) ys k = (k.0, each_left (IsApart x) xs ys k.1, dual_left xs ys k.2)
 
 pub dual_length : (w : ℕ) (ps : List Pair) → IsDualPair w ps → length ps ≤ w
 dual_length w ps d = let c = counted w ps d.widths d.dual in let m = c.as_many in let t = c.together in omega arith

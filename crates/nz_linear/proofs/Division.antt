@@ -177,7 +177,7 @@ primitive_of x n =
     let one : r.g *ℤ dot r.is.factors q.0 ≡ r.g *ℤ pos 1 = sym (dot-scaled r.is.factors r.g q.0) ∙ ap (dot r.is.factors) q.1 ∙ sym r.is.same ∙ sym (mul-one r.g) in
     record { y = q.0; is = record { factor = r.g; positive = p; same = q.1; primitive = primitive_by_unit q.0 (record { form = r.is.factors; one = cancel_mul r.g _ _ p one }) } }
 
-primitive_multiple : (a b : ℤ) (x y : Vector) → scaled a x ≡ scaled b y → IsPrimitive x → IsMultipleOf b a
+pub primitive_multiple : (a b : ℤ) (x y : Vector) → scaled a x ≡ scaled b y → IsPrimitive x → IsMultipleOf b a
 primitive_multiple a b x y e p =
     let u = unit_value x p in
     let k : a *ℤ dot u.form x ≡ b *ℤ dot u.form y = sym (dot-scaled u.form a x) ∙ ap (dot u.form) e ∙ dot-scaled u.form b y in

@@ -10,7 +10,7 @@ use Rattle.nz_spec.proofs.IntLaws.{mul-nonneg}
 use Rattle.nz_linear.specs.Cones.{Satisfies, IsDoubleDescription, meet}
 use Rattle.nz_linear.specs.Extreme.{IsPointed, Splits}
 use Rattle.nz_linear.specs.DoubleDescription.{HaveApartZeros, IsThird, HasThird, IsPrunedCut}
-use Rattle.nz_linear.proofs.Ring.{sums, ring_z, neg-mul}
+use Rattle.nz_linear.proofs.Ring.{zero_sum, cross_gone, sums, ring_z, neg-mul}
 use Rattle.nz_linear.proofs.Signs.{mul_pos, mul_is_zero}
 use Rattle.nz_linear.proofs.Lists.{each_map, each_map2, each_map3, each_map4}
 use Rattle.nz_spec.proofs.VectorLaws.{dot-scaled}
@@ -83,7 +83,7 @@ ring_below : (m k H N R q p r : ℤ) → m *ℤ (H *ℤ r +ℤ R *ℤ p) ≡ k *
 ring_below m k H N R q p r e = let f = simp ring_z at e in simp ring_z (omega (arith, sums, f))
 
 -- the values of two vectors of which multiples are the same
-same_at : (m k : ℤ) (x y : Vector) → scaled m x ≡ scaled k y → (a : Vector) → m *ℤ dot a x ≡ k *ℤ dot a y
+pub same_at : (m k : ℤ) (x y : Vector) → scaled m x ≡ scaled k y → (a : Vector) → m *ℤ dot a x ≡ k *ℤ dot a y
 same_at m k x y e a = sym (dot-scaled a m x) ∙ ap (dot a) e ∙ dot-scaled a k y
 
 -- the sum of a pair with a third ray is split
@@ -132,14 +132,8 @@ third_splits w h rows p n r lp ln sp sn un up t =
           (same_at m k r (meet h p n) e a ∙ ap (λ y. k *ℤ y) (meet_at w h p n a lp ln))) sp);
     }))
   where
-    zero_sum : (c d x y : ℤ) → x ≡ pos 0 → y ≡ pos 0 → c *ℤ x +ℤ d *ℤ y ≡ pos 0
-    zero_sum c d x y e f = omega (arith, sums, ap (λ t. c *ℤ t) e, ap (λ t. d *ℤ t) f, *ℤ-zero c, *ℤ-zero d)
-
-    gone : (a b : ℤ) → a *ℤ b +ℤ neg_ℤ b *ℤ a ≡ pos 0
-    gone a b = simp ring_z (omega (arith, sums))
-
     h_zero : (x y : Vector) → length x ≡ w → length y ≡ w → dot h (meet h x y) ≡ pos 0
-    h_zero x y lx ly = meet_at w h x y h lx ly ∙ gone (dot h x) (dot h y)
+    h_zero x y lx ly = meet_at w h x y h lx ly ∙ cross_gone (dot h x) (dot h y)
 
 -- ---- the pruned step
 pub pruned_step : (w : ℕ) (h : Vector) (rows rays cut : List Vector) → length h ≡ w → IsPointed w (h ∷ rows) → IsDoubleDescription w rows rays → IsPrunedCut w h rows rays cut → IsDoubleDescription w (h ∷ rows) cut

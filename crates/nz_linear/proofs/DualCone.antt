@@ -11,7 +11,7 @@ use Rattle.nz_linear.proofs.Ring.{sums, ring_z, mul-one}
 use Rattle.nz_linear.proofs.Lists.{each_map, each_of_map, map_each}
 use Rattle.nz_spec.proofs.VectorLaws.{dot-zero, zero-dot, dot-scaled}
 use Rattle.nz_linear.proofs.VectorLaws.{cons_same, length-scaled, dot_comm, scaled-dot, plus-dot, scaled_is_zero}
-use Rattle.nz_linear.proofs.DualPairs.{product_positive, length-spread, value_step, expansion, spread_is}
+use Rattle.nz_linear.proofs.DualPairs.{product_positive, length-spread, value_step, expansion, spread_is, length-factors}
 use Rattle.nz_linear.proofs.Elimination.{all_of_width, complete_of, spread_vanishes}
 
 -- two forms with the same values at all vectors of their width are the same
@@ -66,7 +66,7 @@ pub swapped_only_zero : (w : ℕ) (ps : List Pair) → IsDualPair w ps → OnlyZ
 swapped_only_zero w ps d o y ly v = scaled_is_zero w (product ps) y (product_positive ps d.dual) ly (form_expansion w ps y d o ly ∙ spread_vanishes w (map swap ps) y (swapped_widths w ps d.widths) v)
 
 -- ---- the description
-swapped_vectors : (ps : List Pair) → map (λ (p : Pair). p.vector) (map swap ps) ≡ map (λ (p : Pair). p.form) ps
+pub swapped_vectors : (ps : List Pair) → map (λ (p : Pair). p.vector) (map swap ps) ≡ map (λ (p : Pair). p.form) ps
 swapped_vectors [] = refl
 swapped_vectors (p ∷ ps) = ap (λ t. p.form ∷ t) (swapped_vectors ps)
 
@@ -78,10 +78,6 @@ factors_nonneg (p ∷ ps) x d s =
     scale : (k : ℤ) (cs : List ℤ) → pos 0 ≤ℤ k → Each (λ c. pos 0 ≤ℤ c) cs → Each (λ c. pos 0 ≤ℤ c) (scaled k cs)
     scale k [] h n = tt
     scale k (c ∷ cs) h n = (mul-nonneg k c h n.0, scale k cs h n.1)
-
-length-factors : (ps : List Pair) (x : Vector) → length (spread_factors ps x) ≡ length ps
-length-factors [] x = refl
-length-factors (p ∷ ps) x = ap suc (length-scaled (length ps) (divisor p) (spread_factors ps x) (length-factors ps x))
 
 length_forms : (ps : List Pair) → length (map swap ps) ≡ length (map (λ (p : Pair). p.form) ps)
 length_forms [] = refl

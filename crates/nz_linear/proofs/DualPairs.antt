@@ -1,5 +1,5 @@
 -- Dual pairs: the expansion, independence, and forms that vanish at all vectors but one.
-use Rattle.std.proofs.Common.{◌≡◌, ℕ, List, [], ◌∷◌, ◌++◌, length, map, ℤ, pos, negsuc, ◌+ℤ◌, ◌*ℤ◌, ◌<ℤ◌, refl, sym, ap, ◌∙◌, arith}
+use Rattle.std.proofs.Common.{◌≡◌, ℕ, suc, List, [], ◌∷◌, ◌++◌, length, map, ℤ, pos, negsuc, ◌+ℤ◌, ◌*ℤ◌, ◌<ℤ◌, refl, sym, ap, ◌∙◌, arith}
 use Rattle.std.proofs.lemmas.Int.{ints}
 use Rattle.std.proofs.Math.IntN.{*ℤ-zero}
 use Rattle.std.specs.List.{AllByRecursion as Each}
@@ -85,8 +85,12 @@ pub spread_is : (w : ℕ) (ps : List Pair) (x : Vector) → spread w ps x ≡ co
 spread_is w [] x = refl
 spread_is w (p ∷ ps) x = ap (λ t. plus (scaled (product ps *ℤ dot p.form x) p.vector) t) (ap (scaled (divisor p)) (spread_is w ps x) ∙ sym (combination-scaled w (divisor p) (spread_factors ps x) (map (λ (q : Pair). q.vector) ps)))
 
+pub length-factors : (ps : List Pair) (x : Vector) → length (spread_factors ps x) ≡ length ps
+length-factors [] x = refl
+length-factors (p ∷ ps) x = ap suc (length-scaled (length ps) (divisor p) (spread_factors ps x) (length-factors ps x))
+
 -- ---- independence
-widths_of_vectors : (w : ℕ) (ps : List Pair) → Each (HasWidths w) ps → Each (HasWidth w) (map (λ p. p.vector) ps)
+pub widths_of_vectors : (w : ℕ) (ps : List Pair) → Each (HasWidths w) ps → Each (HasWidth w) (map (λ p. p.vector) ps)
 widths_of_vectors w [] h = tt
 widths_of_vectors w (p ∷ ps) h = (h.0.vector_width, widths_of_vectors w ps h.1)
 
@@ -141,3 +145,7 @@ dual_split p (x ∷ xs) ys d =
 pub dual_right : (xs ys : List Pair) → IsDual (xs ++ ys) → IsDual ys
 dual_right [] ys d = d
 dual_right (x ∷ xs) ys d = dual_right xs ys d.2
+
+pub dual_left : (xs ys : List Pair) → IsDual (xs ++ ys) → IsDual xs
+dual_left [] ys d = tt
+dual_left (x ∷ xs) ys d = (d.0, each_left (IsApart x) xs ys d.1, dual_left xs ys d.2)

@@ -8,7 +8,7 @@ use Rattle.nz_spec.specs.Vectors.{Vector, dot, plus, scaled, zero_vector}
 use Rattle.nz_spec.proofs.SumLaws.{length-zero_vector}
 use Rattle.nz_linear.specs.DualPairs.{Pair, pair_of, divisor, IsApart, HasWidths, IsDual, IsDualPair, AllVanish, OnlyZero, IsSpace, IsCompleteOn, product, spread}
 use Rattle.nz_linear.specs.Elimination.{IsCleared, IsTurned, IsPivotStep, IsState}
-use Rattle.nz_linear.proofs.Ring.{sums, ring_z}
+use Rattle.nz_linear.proofs.Ring.{cross_gone, sums, ring_z}
 use Rattle.nz_linear.proofs.Signs.{mul_pos, mul_is_zero, mul_is_pos}
 use Rattle.nz_linear.proofs.Lists.{each_map, each_map2, each_right, each_insert, each_remove, zip_append}
 use Rattle.nz_spec.proofs.VectorLaws.{dot-scaled, dot-zero, scaled-zero}
@@ -37,11 +37,15 @@ spread_vanishes w (p ∷ ps) x h z =
 ring_cleared : (a d b g : ℤ) → g ≡ a *ℤ d +ℤ neg_ℤ b *ℤ pos 0 → g ≡ a *ℤ d
 ring_cleared a d b g e = e ∙ simp ring_z (omega (arith, sums))
 
+-- at any form
+pub cleared_at_form : (w : ℕ) (h u f : Vector) (r q : Pair) (c : IsCleared w h u r q) → length u ≡ w → length r.vector ≡ w → c.factor *ℤ dot f q.vector ≡ dot h u *ℤ dot f r.vector +ℤ neg_ℤ (dot h r.vector) *ℤ dot f u
+cleared_at_form w h u f r q c lu lr = sym (dot-scaled f c.factor q.vector) ∙ ap (dot f) c.same ∙ simp (dot-plus w, dot-scaled, length-scaled w)
+
 -- at a form that is 0 at u
 cleared_value : (w : ℕ) (h u f : Vector) (r q : Pair) (c : IsCleared w h u r q) → length u ≡ w → length r.vector ≡ w → dot f u ≡ pos 0 → c.factor *ℤ dot f q.vector ≡ dot h u *ℤ dot f r.vector
 cleared_value w h u f r q c lu lr z =
     ring_cleared (dot h u) (dot f r.vector) (dot h r.vector) _
-    (sym (dot-scaled f c.factor q.vector) ∙ ap (dot f) c.same ∙ simp (dot-plus w, dot-scaled, length-scaled w) (ap (λ t. dot h u *ℤ dot f r.vector +ℤ neg_ℤ (dot h r.vector) *ℤ t) z))
+    (cleared_at_form w h u f r q c lu lr ∙ ap (λ t. dot h u *ℤ dot f r.vector +ℤ neg_ℤ (dot h r.vector) *ℤ t) z)
 
 cleared_zero : (w : ℕ) (h u f : Vector) (r q : Pair) → IsCleared w h u r q → length u ≡ w → length r.vector ≡ w → dot f u ≡ pos 0 → dot f r.vector ≡ pos 0 → dot f q.vector ≡ pos 0
 cleared_zero w h u f r q c lu lr z zr =
@@ -51,14 +55,10 @@ cleared_positive : (w : ℕ) (h u f : Vector) (r q : Pair) → IsCleared w h u r
 cleared_positive w h u f r q c lu lr z a b =
     mul_is_pos c.factor (dot f q.vector) c.positive (rw (cleared_value w h u f r q c lu lr z) (mul_pos (dot h u) (dot f r.vector) a b))
 
-ring_gone : (a b : ℤ) → a *ℤ b +ℤ neg_ℤ b *ℤ a ≡ pos 0
-ring_gone a b = simp ring_z (omega (arith, sums))
-
 -- at h itself
 cleared_at : (w : ℕ) (h u : Vector) (r q : Pair) → IsCleared w h u r q → length u ≡ w → length r.vector ≡ w → dot h q.vector ≡ pos 0
 cleared_at w h u r q c lu lr =
-    mul_is_zero c.factor (dot h q.vector) c.positive
-    (sym (dot-scaled h c.factor q.vector) ∙ ap (dot h) c.same ∙ simp (dot-plus w, dot-scaled, length-scaled w) (ring_gone (dot h u) (dot h r.vector)))
+    mul_is_zero c.factor (dot h q.vector) c.positive (cleared_at_form w h u h r q c lu lr ∙ cross_gone (dot h u) (dot h r.vector))
 
 -- ---- clearing keeps a dual pair
 cleared_widths : (w : ℕ) (h u : Vector) (rs qs : List Pair) → AllZip (IsCleared w h u) rs qs → Each (HasWidths w) rs → Each (HasWidths w) qs

@@ -6,7 +6,7 @@ use Rattle.std.specs.List.{AllByRecursion as Each}
 use Rattle.nz_spec.specs.Vectors.{Vector, dot, plus, scaled, zero_vector, HasWidth, IsZero}
 use Rattle.nz_spec.proofs.SumLaws.{length-zero_vector}
 use Rattle.nz_linear.specs.DualPairs.{Pair, pair_of, divisor, IsApart, HasWidths, IsDual, IsDualPair, AllVanish, OnlyZero}
-use Rattle.nz_linear.specs.Elimination.{IsCleared, IsState, shifted, unit_pairs, CommonZero, DualOfRows}
+use Rattle.nz_linear.specs.Elimination.{IsPivotStep, IsCleared, IsState, shifted, unit_pairs, CommonZero, DualOfRows}
 use Rattle.nz_linear.proofs.Ring.{sums, one-mul}
 use Rattle.nz_linear.proofs.Signs.{int_zero_or_not, signed}
 use Rattle.nz_linear.proofs.Lists.{each_map, each_left, each_right, each_remove, zip_map}
@@ -96,6 +96,32 @@ pub record SomeState (w : ℕ) (rows : List Vector) : Type 0 where
   pub free : List Pair
   pub state : IsState w rows chosen free
 
+-- the vector of the pivot or its opposite, at which h is positive
+abbrev pub turned : (h : Vector) (ps : List Pair) → FoundPivot h ps → Vector
+turned h ps f = scaled (signed (dot h f.pivot.vector) f.nonzero).sign f.pivot.vector
+
+-- the step at a pivot that was found
+abbrev pub found_step : (w : ℕ) (h : Vector) (rows : List Vector) (chosen free : List Pair) (f : FoundPivot h free) → IsState w rows chosen free
+    → IsPivotStep w h chosen free (pair_of h (turned h free f) ∷ map (clear h (turned h free f)) chosen) (map (clear h (turned h free f)) (f.before ++ f.after))
+found_step w h rows chosen free f s =
+    let g = signed (dot h f.pivot.vector) f.nonzero in
+    let u = scaled g.sign f.pivot.vector in
+    let wfree : Each (HasWidths w) (f.before ++ (f.pivot ∷ f.after)) = subst (Each (HasWidths w)) f.split (each_right (HasWidths w) chosen free s.pair.widths) in
+    let wrest : Each (HasWidths w) (f.pivot ∷ (f.before ++ f.after)) = each_remove (HasWidths w) f.pivot f.before f.after wfree in
+    let lu : length u ≡ w = length-scaled w g.sign f.pivot.vector wrest.0.vector_width in
+    record {
+      before = f.before;
+      pivot = f.pivot;
+      after = f.after;
+      split = f.split;
+      u = u;
+      turned = record { sign = g.sign; same = refl; positive = rw (dot-scaled h g.sign f.pivot.vector) g.positive };
+      cleared = map (clear h u) chosen;
+      is_new = refl;
+      clears_chosen = zip_map (IsCleared w h u) (clear h u) (HasWidths w) chosen (λ r k. clear_is w h u r lu k) (each_left (HasWidths w) chosen free s.pair.widths);
+      clears_free = zip_map (IsCleared w h u) (clear h u) (HasWidths w) (f.before ++ f.after) (λ r k. clear_is w h u r lu k) wrest.1;
+    }
+
 pub run : (w : ℕ) (rows : List Vector) → Each (HasWidth w) rows → SomeState w rows
 run w [] l = record { chosen = []; free = unit_pairs w; state = start_state w }
 run w (h ∷ rows) l =
@@ -103,30 +129,10 @@ run w (h ∷ rows) l =
     elim (find_pivot h s.free) [
       | inl all ↦ record { chosen = s.chosen; free = s.free; state = skip_keeps w h rows s.chosen s.free s.state all }
       | inr f ↦ (
-          let g = signed (dot h f.pivot.vector) f.nonzero in
-          let u = scaled g.sign f.pivot.vector in
-          let chosen = map (clear h u) s.chosen in
+          let u = turned h s.free f in
+          let chosen = pair_of h u ∷ map (clear h u) s.chosen in
           let free = map (clear h u) (f.before ++ f.after) in
-          let wall : Each (HasWidths w) (s.chosen ++ s.free) = s.state.pair.widths in
-          let wfree : Each (HasWidths w) (f.before ++ (f.pivot ∷ f.after)) = subst (Each (HasWidths w)) f.split (each_right (HasWidths w) s.chosen s.free wall) in
-          let wrest : Each (HasWidths w) (f.pivot ∷ (f.before ++ f.after)) = each_remove (HasWidths w) f.pivot f.before f.after wfree in
-          let lu : length u ≡ w = length-scaled w g.sign f.pivot.vector wrest.0.vector_width in
-          record {
-            chosen = pair_of h u ∷ chosen;
-            free = free;
-            state = pivot_keeps w h rows s.chosen s.free (pair_of h u ∷ chosen) free l.0 s.state (record {
-              before = f.before;
-              pivot = f.pivot;
-              after = f.after;
-              split = f.split;
-              u = u;
-              turned = record { sign = g.sign; same = refl; positive = rw (dot-scaled h g.sign f.pivot.vector) g.positive };
-              cleared = chosen;
-              is_new = refl;
-              clears_chosen = zip_map (IsCleared w h u) (clear h u) (HasWidths w) s.chosen (λ r k. clear_is w h u r lu k) (each_left (HasWidths w) s.chosen s.free wall);
-              clears_free = zip_map (IsCleared w h u) (clear h u) (HasWidths w) (f.before ++ f.after) (λ r k. clear_is w h u r lu k) wrest.1;
-            });
-          })
+          record { chosen = chosen; free = free; state = pivot_keeps w h rows s.chosen s.free chosen free l.0 s.state (found_step w h rows s.chosen s.free f s.state) })
     ]
 
 -- what a state says at the end

@@ -7,7 +7,7 @@ use Rattle.nz_spec.proofs.SumLaws.{length-zero_vector, length-combination}
 use Rattle.nz_spec.proofs.IntLaws.{mul-nonneg}
 use Rattle.nz_linear.specs.Cones.{Satisfies, IsDoubleDescription, meet}
 use Rattle.nz_linear.specs.DoubleDescription.{HaveApartZeros, IsOnRay, IsExtremeByZeros, AreAdjacent}
-use Rattle.nz_linear.proofs.Ring.{sums, ring_z}
+use Rattle.nz_linear.proofs.Ring.{zero_sum, cross_gone, sums, ring_z}
 use Rattle.nz_linear.proofs.Signs.{mul_pos, mul_is_zero, int_zero_or_not, sign_cases}
 use Rattle.nz_linear.proofs.Lists.{each_map, each_map2, each_map3}
 use Rattle.nz_spec.proofs.VectorLaws.{IsZero-zero_vector, dot-scaled, plus_assoc, add-scaled}
@@ -24,12 +24,12 @@ pub kept_extreme : (w : ℕ) (h : Vector) (rows : List Vector) (x : Vector) → 
 kept_extreme w h rows x e y ly s v = e y ly s.1 v.1
 
 -- a sum of two vectors with factors of at least 0
-record IsBetween (w : ℕ) (p n y : Vector) : Type 0 where
-  at_p : ℤ
-  at_n : ℤ
-  nonneg_p : pos 0 ≤ℤ at_p
-  nonneg_n : pos 0 ≤ℤ at_n
-  same : y ≡ plus (scaled at_p p) (scaled at_n n)
+pub record IsBetween (w : ℕ) (p n y : Vector) : Type 0 where
+  pub at_p : ℤ
+  pub at_n : ℤ
+  pub nonneg_p : pos 0 ≤ℤ at_p
+  pub nonneg_n : pos 0 ≤ℤ at_n
+  pub same : y ≡ plus (scaled at_p p) (scaled at_n n)
 
 more_p : (w : ℕ) (p n y : Vector) (c : ℤ) → length p ≡ w → length n ≡ w → pos 0 ≤ℤ c → IsBetween w p n y → IsBetween w p n (plus (scaled c p) y)
 more_p w p n y c lp ln h b = record {
@@ -59,7 +59,7 @@ between_zero w p n lp ln = record {
 }
 
 -- a sum of rays that vanishes where p and n do is between them
-between : (w : ℕ) (rows : List Vector) (p n : Vector) (cs : List ℤ) (gs : List Vector) → length p ≡ w → length n ≡ w → Each (HasWidth w) rows → Each (λ c. pos 0 ≤ℤ c) cs → Each (HasWidth w) gs → Each (Satisfies rows) gs
+pub between : (w : ℕ) (rows : List Vector) (p n : Vector) (cs : List ℤ) (gs : List Vector) → length p ≡ w → length n ≡ w → Each (HasWidth w) rows → Each (λ c. pos 0 ≤ℤ c) cs → Each (HasWidth w) gs → Each (Satisfies rows) gs
     → AreAdjacent rows gs p n → Each (λ a. dot a p ≡ pos 0 → dot a n ≡ pos 0 → dot a (combination w cs gs) ≡ pos 0) rows → IsBetween w p n (combination w cs gs)
 between w rows p n [] gs lp ln lr k l s adj z = between_zero w p n lp ln
 between w rows p n (c ∷ cs) [] lp ln lr k l s adj z = between_zero w p n lp ln
@@ -99,7 +99,7 @@ adjacent_extreme w h rows rays p n lp ln d sp sn un up adj y ly sy v =
     let i = generated w rows rays y d ly sy.1 in
     let H = dot h p in
     let N = neg_ℤ (dot h n) in
-    let at_h : dot h (meet h p n) ≡ pos 0 = meet_at w h p n h lp ln ∙ gone H (dot h n) in
+    let at_h : dot h (meet h p n) ≡ pos 0 = meet_at w h p n h lp ln ∙ cross_gone H (dot h n) in
     let hy : dot h y ≡ pos 0 = v.0 at_h in
     let zy : Each (λ a. dot a p ≡ pos 0 → dot a n ≡ pos 0 → dot a y ≡ pos 0) rows = each_map (λ a. dot a (meet h p n) ≡ pos 0 → dot a y ≡ pos 0) (λ a. dot a p ≡ pos 0 → dot a n ≡ pos 0 → dot a y ≡ pos 0) rows
     (λ a f e1 e2. f (meet_at w h p n a lp ln ∙ zero_sum H N (dot a n) (dot a p) e2 e1)) v.1 in
@@ -119,12 +119,6 @@ adjacent_extreme w h rows rays p n lp ln d sp sn un up adj y ly sy v =
           ∙ ap (λ t. b.at_n *ℤ t) (sym (meet_at w h p n a lp ln)) ∙ sym (dot-scaled a b.at_n (meet h p n)));
     }
   where
-    gone : (a b : ℤ) → a *ℤ b +ℤ neg_ℤ b *ℤ a ≡ pos 0
-    gone a b = simp ring_z (omega (arith, sums))
-
-    zero_sum : (c d x y : ℤ) → x ≡ pos 0 → y ≡ pos 0 → c *ℤ x +ℤ d *ℤ y ≡ pos 0
-    zero_sum c d x y e f = omega (arith, sums, ap (λ t. c *ℤ t) e, ap (λ t. d *ℤ t) f, *ℤ-zero c, *ℤ-zero d)
-
     balanced : (z y s : ℤ) → s +ℤ y *ℤ z ≡ pos 0 → s +ℤ y *ℤ neg_ℤ (neg_ℤ z) ≡ pos 0
     balanced z y s e = let f : neg_ℤ (neg_ℤ z) ≡ z = omega (arith, sums) in rw f e
 

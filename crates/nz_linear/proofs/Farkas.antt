@@ -9,7 +9,7 @@ use Rattle.nz_spec.proofs.SumLaws.{IsInCone-zero, length-zero_vector, IsInCone-p
 use Rattle.nz_spec.proofs.ConstraintLaws.{nonneg_on_cone}
 use Rattle.nz_spec.proofs.IntLaws.{mul-nonneg}
 use Rattle.nz_linear.specs.Cones.{Satisfies, IsDoubleDescription, meet, IsCut}
-use Rattle.nz_linear.proofs.Ring.{sums, ring_z, one-mul, neg-mul}
+use Rattle.nz_linear.proofs.Ring.{cross_gone, sums, ring_z, one-mul, neg-mul}
 use Rattle.nz_linear.proofs.Lists.{each_map, each_map2, each_map3, each_map4, each_append, each_left, each_right, each_of_map, map_each}
 use Rattle.nz_spec.proofs.VectorLaws.{dot-scaled, zero-dot}
 use Rattle.nz_linear.proofs.VectorLaws.{cons_same, length-plus, length-scaled, dot_comm, dot-plus, plus-dot, scaled-dot, same_values}
@@ -83,15 +83,12 @@ farkas_step w h rows rays cut lh d c = record {
 pub meet_width : (w : ℕ) (h p n : Vector) → length p ≡ w → length n ≡ w → length (meet h p n) ≡ w
 meet_width w h p n lp ln = length-plus w _ _ (length-scaled w (dot h p) n ln) (length-scaled w (neg_ℤ (dot h n)) p lp)
 
-ring_meet : (a b : ℤ) → a *ℤ b +ℤ neg_ℤ b *ℤ a ≡ pos 0
-ring_meet a b = simp ring_z (omega (arith, sums))
-
 -- the sum of two rays on both sides satisfies the rows, and h is 0 at it
 pub meet_sound : (w : ℕ) (h : Vector) (rows : List Vector) (p n : Vector) → length p ≡ w → length n ≡ w → dot h n <ℤ pos 0 → pos 0 <ℤ dot h p → Satisfies rows p → Satisfies rows n → (pos 0 ≤ℤ dot h (meet h p n)) × Satisfies rows (meet h p n)
 meet_sound w h rows p n lp ln un up sp sn =
     let value : (f : Vector) → dot f (meet h p n) ≡ dot h p *ℤ dot f n +ℤ neg_ℤ (dot h n) *ℤ dot f p = λ f.
     dot-plus w f _ _ (length-scaled w (dot h p) n ln) (length-scaled w (neg_ℤ (dot h n)) p lp) ∙ omega (arith, sums, dot-scaled f (dot h p) n, dot-scaled f (neg_ℤ (dot h n)) p) in (
-      omega (arith, sums, value h, ring_meet (dot h p) (dot h n)),
+      omega (arith, sums, value h, cross_gone (dot h p) (dot h n)),
       each_map2 (λ f. pos 0 ≤ℤ dot f p) (λ f. pos 0 ≤ℤ dot f n) (λ f. pos 0 ≤ℤ dot f (meet h p n)) rows
           (λ f a b. omega (arith, sums, value f, mul-nonneg (dot h p) (dot f n) (omega (arith, sums)) b, mul-nonneg (neg_ℤ (dot h n)) (dot f p) (omega (arith, sums)) a)) sp sn,
     )

@@ -22,4 +22,17 @@ pub mod Distinct
 pub mod Dependence
 pub mod Groups
 pub mod DualCone
+pub mod Spans
+pub mod Rank
+pub mod Units
+pub mod NormalForms
+pub mod Echelon
+pub mod KeyColumns
+pub mod Splitting
+pub mod RayExistence
+pub mod SupportForms
+pub mod FacetRows
+pub mod DescribedCone
+pub mod NeededForms
+pub mod Floors
 pub mod Recipes

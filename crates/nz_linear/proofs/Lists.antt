@@ -59,3 +59,44 @@ each_map4 P Q R S T (x ∷ xs) f h k l m = (f x h.0 k.0 l.0 m.0, each_map4 P Q R
 pub each_all : {A : Type 0} (P : A → Type 0) (xs : List A) → ((x : A) → P x) → Each P xs
 each_all P [] f = tt
 each_all P (x ∷ xs) f = (f x, each_all P xs f)
+
+-- ---- two lists, place by place
+pub zip_change : {A B : Type 0} (R S : A → B → Type 0) (xs : List A) (ys : List B) → ((x : A) (y : B) → R x y → S x y) → AllZip R xs ys → AllZip S xs ys
+zip_change R S [] [] f z = tt
+zip_change R S [] (y ∷ ys) f z = absurd z
+zip_change R S (x ∷ xs) [] f z = absurd z
+zip_change R S (x ∷ xs) (y ∷ ys) f z = (f x y z.0, zip_change R S xs ys f z.1)
+
+pub zip_both : {A B : Type 0} (R S : A → B → Type 0) (xs : List A) (ys : List B) → AllZip R xs ys → AllZip S xs ys → AllZip (λ x y. R x y × S x y) xs ys
+zip_both R S [] [] z k = tt
+zip_both R S [] (y ∷ ys) z k = absurd z
+zip_both R S (x ∷ xs) [] z k = absurd z
+zip_both R S (x ∷ xs) (y ∷ ys) z k = ((z.0, k.0), zip_both R S xs ys z.1 k.1)
+
+-- what is known of each of the second list
+pub zip_right : {A B : Type 0} (R : A → B → Type 0) (P : B → Type 0) (xs : List A) (ys : List B) → AllZip R xs ys → Each P ys → AllZip (λ x y. R x y × P y) xs ys
+zip_right R P [] [] z k = tt
+zip_right R P [] (y ∷ ys) z k = absurd z
+zip_right R P (x ∷ xs) [] z k = absurd z
+zip_right R P (x ∷ xs) (y ∷ ys) z k = ((z.0, k.0), zip_right R P xs ys z.1 k.1)
+
+pub zip_left : {A B : Type 0} (R : A → B → Type 0) (P : A → Type 0) (xs : List A) (ys : List B) → ((x : A) (y : B) → R x y → P x) → AllZip R xs ys → Each P xs
+zip_left R P [] [] f z = tt
+zip_left R P [] (y ∷ ys) f z = absurd z
+zip_left R P (x ∷ xs) [] f z = absurd z
+zip_left R P (x ∷ xs) (y ∷ ys) f z = (f x y z.0, zip_left R P xs ys f z.1)
+
+pub zip_to_right : {A B : Type 0} (R : A → B → Type 0) (P : B → Type 0) (xs : List A) (ys : List B) → ((x : A) (y : B) → R x y → P y) → AllZip R xs ys → Each P ys
+zip_to_right R P [] [] f z = tt
+zip_to_right R P [] (y ∷ ys) f z = absurd z
+zip_to_right R P (x ∷ xs) [] f z = absurd z
+zip_to_right R P (x ∷ xs) (y ∷ ys) f z = (f x y z.0, zip_to_right R P xs ys f z.1)
+
+-- two relations that meet at the first of two lists
+pub zip_meet : {A B C : Type 0} (R : A → B → Type 0) (S : B → C → Type 0) (T : A → C → Type 0) (xs : List A) (ys : List B) (zs : List C) → ((x : A) (y : B) (z : C) → R x y → S y z → T x z) → AllZip R xs ys → AllZip S ys zs → AllZip T xs zs
+zip_meet R S T [] [] [] f h k = tt
+zip_meet R S T [] [] (z ∷ zs) f h k = absurd k
+zip_meet R S T [] (y ∷ ys) zs f h k = absurd h
+zip_meet R S T (x ∷ xs) [] zs f h k = absurd h
+zip_meet R S T (x ∷ xs) (y ∷ ys) [] f h k = absurd k
+zip_meet R S T (x ∷ xs) (y ∷ ys) (z ∷ zs) f h k = (f x y z h.0 k.0, zip_meet R S T xs ys zs f h.1 k.1)

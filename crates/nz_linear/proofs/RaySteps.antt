@@ -24,13 +24,13 @@ use Rattle.nz_linear.proofs.ExtremeRays.{kept_extreme, adjacent_extreme, extreme
 length_same : (k : ℤ) (x : Vector) → length (scaled k x) ≡ length x
 length_same k x = length-scaled (length x) k x refl
 
-primitive_width : (w : ℕ) (v x : Vector) → length v ≡ w → IsPrimitiveOf v x → length x ≡ w
+pub primitive_width : (w : ℕ) (v x : Vector) → length v ≡ w → IsPrimitiveOf v x → length x ≡ w
 primitive_width w v x l i = sym (length_same i.factor x) ∙ ap length i.same ∙ l
 
 pub primitive_value : (v x : Vector) (i : IsPrimitiveOf v x) (a : Vector) → i.factor *ℤ dot a x ≡ dot a v
 primitive_value v x i a = sym (dot-scaled a i.factor x) ∙ ap (dot a) i.same
 
-primitive_satisfies : (rows : List Vector) (v x : Vector) → IsPrimitiveOf v x → Satisfies rows v → Satisfies rows x
+pub primitive_satisfies : (rows : List Vector) (v x : Vector) → IsPrimitiveOf v x → Satisfies rows v → Satisfies rows x
 primitive_satisfies rows v x i s = each_map (λ a. pos 0 ≤ℤ dot a v) (λ a. pos 0 ≤ℤ dot a x) rows (λ a k. mul_is_nonneg i.factor (dot a x) i.positive (rw (primitive_value v x i a) k)) s
 
 primitive_extreme : (w : ℕ) (rows : List Vector) (v x : Vector) → IsPrimitiveOf v x → Satisfies rows v → IsExtremeByZeros w rows v → IsExtremeByZeros w rows x

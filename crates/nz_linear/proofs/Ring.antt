@@ -30,3 +30,10 @@ pub two-mul : (a : ℤ) → pos 2 *ℤ a ≡ a +ℤ a
 two-mul a = omega (arith, ints)
 
 pub ruleset ring_z = (mul-add, add-mul, neg-mul, mul-neg, zero-*ℤ, *ℤ-zero, one-mul, mul-one, two-mul, mul-two, mul_assoc, mul_left_comm, *ℤ_comm)
+
+-- ---- identities that many proofs use
+pub cross_gone : (a b : ℤ) → a *ℤ b +ℤ neg_ℤ b *ℤ a ≡ pos 0
+cross_gone a b = simp ring_z (omega (arith, sums))
+
+pub zero_sum : (c d x y : ℤ) → x ≡ pos 0 → y ≡ pos 0 → c *ℤ x +ℤ d *ℤ y ≡ pos 0
+zero_sum c d x y e f = omega (arith, sums, ap (λ t. c *ℤ t) e, ap (λ t. d *ℤ t) f, *ℤ-zero c, *ℤ-zero d)

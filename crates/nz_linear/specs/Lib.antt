@@ -5,3 +5,5 @@ pub mod Cones
 pub mod Extreme
 pub mod DoubleDescription
 pub mod RayStep
+pub mod Echelon
+pub mod Facets

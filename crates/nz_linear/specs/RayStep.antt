@@ -23,6 +23,20 @@ pub record IsFromPair (h : Vector) (rows rays : List Vector) (x : Vector) : Type
   pub adjacent : AreAdjacent rows rays p n
   pub is : IsPrimitiveOf (meet h p n) x
 
+-- a ray above and a ray below
+pub record RayPair : Type 0 where
+  pub above : Vector
+  pub below : Vector
+
+-- an adjacent pair of the rays, on both sides of h
+pub record IsAdjacentPair (h : Vector) (rows rays : List Vector) (pair : RayPair) : Type 0 where
+  pub has_above : Contains rays pair.above
+  pub has_below : Contains rays pair.below
+  pub over : pos 0 <ℤ dot h pair.above
+  pub under : dot h pair.below <ℤ pos 0
+  pub adjacent : AreAdjacent rows rays pair.above pair.below
+
+-- a ray of the list on h's side
 pub record IsKept (h : Vector) (rays : List Vector) (x : Vector) : Type 0 where
   pub has : Contains rays x
   pub side : pos 0 ≤ℤ dot h x
