@@ -1,16 +1,16 @@
 -- The equations and the support forms of a list of vectors are unique.
-use Rattle.std.proofs.Common.{◌≡◌, ◌≢◌, ℕ, zero, suc, ◌+◌, ◌<◌, ◌≤◌, ◌⊎◌, inl, inr, List, [], ◌∷◌, length, map, ℤ, pos, ◌+ℤ◌, ◌-ℤ◌, ◌*ℤ◌, ◌≤ℤ◌, ◌<ℤ◌, refl, sym, ap, ◌∙◌, arith}
+use Rattle.std.proofs.Common.{◌≡◌, ◌≢◌, ℕ, zero, suc, ◌+◌, ◌<◌, ◌≤◌, ◌⊎◌, inl, inr, List, [], ◌∷◌, length, ℤ, pos, ◌-ℤ◌, ◌*ℤ◌, refl, sym, ap, ◌∙◌, arith}
 use Rattle.std.proofs.lemmas.Int.{ints}
 use Rattle.std.proofs.Math.IntN.{*ℤ-zero, zero-*ℤ, *ℤ_comm}
 use Rattle.std.specs.List.{AllByRecursion as Each, AllZip}
 use Rattle.nz_spec.specs.Vectors.{Vector, dot, minus, scaled, entry, HasWidth, IsZero}
 use Rattle.nz_spec.specs.Sums.{IsInSpan}
-use Rattle.nz_spec.specs.Forms.{LeadsAt, IsKeyColumn, IsOtherColumn, IsEquationAt, AreEquations, IsDescription}
-use Rattle.nz_spec.proofs.IntLaws.{int_cases, zero_product, mul-sub}
+use Rattle.nz_spec.specs.Forms.{LeadsAt, IsOtherColumn, IsEquationAt, AreEquations}
+use Rattle.nz_spec.proofs.IntLaws.{int_cases, zero_product}
 use Rattle.nz_spec.proofs.VectorLaws.{dot-scaled, dot-minus, length-minus, length-scaled}
 use Rattle.nz_spec.proofs.SumLaws.{dot-combination}
 use Rattle.nz_spec.proofs.ConstraintLaws.{values_zero}
-use Rattle.nz_spec.proofs.ListLaws.{IsListOf-unique, IsLexBefore-asymmetric}
+use Rattle.nz_spec.proofs.ListLaws.{IsListOf-unique}
 use Rattle.nz_spec.proofs.PrimitiveLaws.{same_of_zero_minus, primitive_same}
 
 pub dot_comm : (f x : Vector) → dot f x ≡ dot x f

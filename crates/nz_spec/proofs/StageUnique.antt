@@ -1,14 +1,12 @@
 -- The stage lists of a system are unique.
-use Rattle.std.proofs.Common.{◌≡◌, ◌≢◌, ℕ, ◌+◌, ◌-◌, ◌≤◌, inl, inr, List, [], ◌∷◌, ◌++◌, length, take, Contains, refl, sym, ap, ap₂, ◌∙◌, subst, arith}
+use Rattle.std.proofs.Common.{◌≡◌, ℕ, ◌+◌, ◌-◌, inl, inr, List, [], ◌∷◌, ◌++◌, length, take, Contains, refl, sym, ap, ap₂, ◌∙◌, subst, arith}
 use Rattle.std.specs.List.{AllByRecursion as Each, AllZip, range_with_len}
 use Rattle.nz_spec.specs.Vectors.{Vector, HasWidth}
-use Rattle.nz_spec.specs.Sums.{HasRank}
 use Rattle.nz_spec.specs.Order.{HasNumber, StandsBefore}
 use Rattle.nz_spec.specs.Forms.{IsSupportForm}
 use Rattle.nz_spec.specs.Systems.{System, IsSystem, IsMember}
 use Rattle.nz_spec.specs.Monoids.{IsIrreducible, IsExtreme}
-use Rattle.nz_spec.specs.Elements.{AreExtreme}
-use Rattle.nz_spec.specs.Stages.{IsInLattice, IsInStage, IsFreshRow, IsFreshVector, Separates, none, fresh, other, IsIndependentFirst, CountsStages, AreStages, ArePlacings, ArePlacingsOf, AreDualStages, ArePrimalStages, AreTold}
+use Rattle.nz_spec.specs.Stages.{IsInLattice, IsInStage, IsFreshRow, IsFreshVector, Separates, none, fresh, other, IsIndependentFirst, CountsStages, AreStages, ArePlacings, AreDualStages, ArePrimalStages, AreTold}
 use Rattle.nz_spec.proofs.ListLaws.{IsListOf-unique, StandsBefore-asymmetric, Each-weaker, Each-contains, different_within}
 use Rattle.nz_spec.proofs.LinearLaws.{HasRank-unique}
 use Rattle.nz_spec.proofs.UniqueLaws.{AreEquationsOf-unique, AreRowsOf-unique}

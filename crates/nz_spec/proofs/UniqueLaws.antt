@@ -1,13 +1,12 @@
 -- What a system determines: its description, its constraints, its first element and its stage lists.
-use Rattle.std.proofs.Common.{◌≡◌, ◌≢◌, ℕ, zero, suc, ◌+◌, ◌-◌, ◌<◌, ◌≤◌, ◌⊎◌, inl, inr, List, [], ◌∷◌, ◌++◌, length, take, map, ℤ, pos, ◌+ℤ◌, ◌≤ℤ◌, Option, Some, None, IfSome, Contains, refl, sym, ap, ap₂, ◌∙◌, subst, arith}
+use Rattle.std.proofs.Common.{◌≡◌, ◌≢◌, ℕ, ◌⊎◌, inl, inr, List, [], ◌∷◌, ◌++◌, length, map, pos, Option, Some, None, IfSome, sym, ap, ap₂, ◌∙◌, subst, arith}
 use Rattle.std.proofs.lemmas.Int.{ints}
-use Rattle.std.specs.List.{AllByRecursion as Each, AllZip, range_with_len}
+use Rattle.std.specs.List.{AllByRecursion as Each}
 use Rattle.nz_spec.specs.Vectors.{Vector, minus, HasWidth}
-use Rattle.nz_spec.specs.Sums.{HasRank}
-use Rattle.nz_spec.specs.Order.{IsListOf, IsFirstOf, HasNumber, StandsBefore}
-use Rattle.nz_spec.specs.Forms.{AreEquations, AreSupportForms, IsSupportForm, IsDescription}
-use Rattle.nz_spec.specs.Systems.{Congruence, System, IsSystem, IsMember}
-use Rattle.nz_spec.specs.Elements.{IsHilbertElement, IsFirstNotPositive, AreExtreme}
+use Rattle.nz_spec.specs.Order.{IsFirstOf, StandsBefore}
+use Rattle.nz_spec.specs.Forms.{IsSupportForm, IsDescription}
+use Rattle.nz_spec.specs.Systems.{Congruence, System, IsSystem}
+use Rattle.nz_spec.specs.Elements.{IsHilbertElement, IsFirstNotPositive}
 use Rattle.nz_spec.specs.Constraints.{Constraint, Zero, NotNegative, Meets, constraint_of, AreGenEquations, AreGenSupport, AreEquationsOf, AreRowsOf, AreConstraints, IsFirstBroken, IsOutsideConstraint}
 use Rattle.nz_spec.proofs.VectorLaws.{zero_or_not}
 use Rattle.nz_spec.proofs.ListLaws.{IsListOf-unique, IsLexBefore-asymmetric, StandsBefore-asymmetric, Each-weaker, first_unique}
