@@ -71,11 +71,11 @@ module _ (w : ℕ) (G : List Vector) (wide : Each (HasWidth w) G) (f : Vector) (
       at_column : ((i : ℕ) → j < i → entry f i ≡ pos 0) → entry f j ≡ pos 0
       at_column later = stable (entry f j) (λ ne. elim (within_or_past w j) [
         | inl inside ↦ ne (zero_at j (record {
-            within = inside;
-            not_key = λ key.
+          within = inside;
+          not_key = λ key.
               let e = sym (dot_at_lead f key.0 j key.2 later) ∙ zero_on_span f w G key.0 wide zero_on key.1 in
               entry_at_lead key.0 j key.2 (zero_product (entry f j) (entry key.0 j) ne e);
-          }))
+        }))
         | inr past ↦ ne (entry_past f j (omega (arith, l, past)))
       ])
 

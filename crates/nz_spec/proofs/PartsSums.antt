@@ -57,8 +57,8 @@ TakesApart-sum w {elements = elements} wide l (takes {x = x} {rest = rest} {coun
     let n = length-counts t in
     let c = combination w (map pos ns) elements in
     let more : combination w (map pos (one_more (length before) ns)) elements ≡ plus e c =
-        subst (λ (vs : List Vector). combination w (map pos (one_more (length before) ns)) vs ≡ plus e (combination w (map pos ns) vs)) (sym whole)
-          (combination-one_more w before after e ns (n ∙ ap length whole)) in
+    subst (λ (vs : List Vector). combination w (map pos (one_more (length before) ns)) vs ≡ plus e (combination w (map pos ns) vs)) (sym whole)
+    (combination-one_more w before after e ns (n ∙ ap length whole)) in
     ap (λ v. plus v rest) more ∙ plus_assoc e c rest ∙ ap (plus e) less ∙ plus-minus x e same
 
 -- what is left of a member is a member
@@ -98,8 +98,8 @@ module _ (Member : Vector → Type 0) (closed : IsClosed Member) (w : ℕ) (wide
             let d = degree v mv nv in
             let s : dot form u +ℤ dot form v ≡ dot form y = sym (dot-plus form u v l) ∙ ap (dot form) e in
             some_irreducible n u (omega (arith, ints, h, d, s)) mu nu (λ i im rest.
-                none i im (subst (λ (z : Vector). Member (minus z i)) e
-                  (subst Member (minus-plus_right u v i (wide u mu ∙ sym (wide i im.member)) (sym l)) (closed (minus u i) v rest mv))));
+            none i im (subst (λ (z : Vector). Member (minus z i)) e
+            (subst Member (minus-plus_right u v i (wide u mu ∙ sym (wide i im.member)) (sym l)) (closed (minus u i) v rest mv))));
       }) (subst Member (sym (minus-self y ∙ ap zero_vector (wide y m))) zero_in)
 
   -- where no irreducible can be taken from a member, it is 0
@@ -141,7 +141,7 @@ module _ (s : System) (is : IsSystem s) (form : Vector) (degree : IsDegreeOf (Is
   pub rest_is_zero : s.level ≡ false → (x : Vector) (counts : List ℕ) (rest : Vector) → IsMember s x → TakesApart (IsMember s) elements x counts rest → IsZero rest
   rest_is_zero flat x counts rest m t =
       zero_of_none (IsMember s) (IsMember-plus s) s.width (λ y h. h.width) (IsMember-zero s is) form degree rest (TakesApart-member m t)
-        (λ e i k. none_taken x counts rest t e (record { irreducible = i; level_zero = λ h. absurd (let f : false ≡ true = sym flat ∙ h in cc) }) k)
+      (λ e i k. none_taken x counts rest t e (record { irreducible = i; level_zero = λ h. absurd (let f : false ≡ true = sym flat ∙ h in cc) }) k)
 
   -- and it is the sum of what is taken
   pub member_is_sum : s.level ≡ false → (x : Vector) (counts : List ℕ) (rest : Vector) → IsMember s x → TakesApart (IsMember s) elements x counts rest → combination s.width (map pos counts) elements ≡ x
@@ -159,7 +159,7 @@ module _ (s : System) (is : IsSystem s) (form : Vector) (degree : IsDegreeOf (Is
       at_level = level_of-rest s.width (Each-weaker (IsHilbertElement s) (λ e. HasWidth s.width e × (level_of e ≡ pos 0)) (λ e h. (h.irreducible.member.width, h.level_zero tall)) elements basis.only) m.member.width t ∙ m.at_level;
     };
     no_sum = λ y z my mz nz e. nz (zero_of_none (IsMember s) (IsMember-plus s) s.width (λ v h. h.width) (IsMember-zero s is) form degree z mz.member
-      (λ i im k.
+        (λ i im k.
         let l : length z ≡ length i = mz.member.width ∙ sym im.member.width in
         let a = level_of-member s is tall i im.member in
         let b = level_of-member s is tall (minus z i) k in
@@ -167,7 +167,7 @@ module _ (s : System) (is : IsSystem s) (form : Vector) (degree : IsDegreeOf (Is
         let d = ap level_of (plus-minus z i l) in
         let f = mz.at_level in
         let u : plus y (minus z i) ≡ minus rest i =
-            plus_comm y (minus z i) ∙ minus-plus_right z y i l (my.member.width ∙ sym mz.member.width) ∙ ap (λ v. minus v i) (plus_comm z y ∙ e) in
+        plus_comm y (minus z i) ∙ minus-plus_right z y i l (my.member.width ∙ sym mz.member.width) ∙ ap (λ v. minus v i) (plus_comm z y ∙ e) in
         none_taken x counts rest t i (record { irreducible = im; level_zero = λ h. omega (arith, ints, a, b, c, d, f) })
-          (subst (IsMember s) u (IsMember-plus s y (minus z i) my.member k))));
+        (subst (IsMember s) u (IsMember-plus s y (minus z i) my.member k))));
   }

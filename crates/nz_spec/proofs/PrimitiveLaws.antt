@@ -91,7 +91,7 @@ module _ (r a : ℕ) (z y : Vector) (one : 1 ≤ r) (less : r < a) (e : scaled (
   no_whole q d =
       let l = length_same (pos a) (pos r) z y e in
       let t : y ≡ scaled (pos q) z = same_of_none (pos a) (λ g. omega (arith, ints, g)) y (scaled (pos q) z) (sym l ∙ sym (length-scaled (pos q) z))
-          (step_vector (pos a) (pos q) (pos r) (pos 0) (ratio q 0 d) z y e) in
+      (step_vector (pos a) (pos q) (pos r) (pos 0) (ratio q 0 d) z y e) in
       let h : Each (IsMultipleOf (pos q)) y = rw t (each_multiple (pos q) z) in
       let g = one_of_divisor (pos q) (some_times q d) (p (pos q) h) in
       let u : q ≡ 1 = omega (arith, ints, g) in
@@ -107,7 +107,7 @@ none_shorter : (fuel r a : ℕ) (z y : Vector) → r < fuel → 1 ≤ r → r < 
 none_shorter zero r a z y f one less e p = omega arith
 none_shorter (suc fuel) r a z y f one less e p =
     by_remainder r a z y one less e p (a / r) (a % r) (sym (div-add-mod' a r)) (mod-lt a (omega arith))
-      (λ s z' k h g. none_shorter fuel s a z' y (omega arith) h (omega arith) g p)
+    (λ s z' k h g. none_shorter fuel s a z' y (omega arith) h (omega arith) g p)
 
 order_cases : (m n : ℕ) → (m < n) ⊎ ((m ≡ n) ⊎ (n < m))
 order_cases zero zero = inr (inl refl)

@@ -3,7 +3,7 @@ use Rattle.std.proofs.Common.{◌≡◌, ◌≢◌, ℕ, inl, inr, List, [], ◌
 use Rattle.std.proofs.lemmas.Int.{ints}
 use Rattle.std.specs.List.{AllByRecursion as Each}
 use Rattle.nz_spec.specs.Vectors.{Vector, scaled, combination, HasWidth, IsZero}
-use Rattle.nz_spec.specs.Sums.{IsInCone, IsInside, IsIndependent}
+use Rattle.nz_spec.specs.Sums.{IsInCone, IsInside}
 use Rattle.nz_spec.specs.Covers.{vectors_at, IsSimplex, Holds, AreApart, IsGoodCover}
 use Rattle.nz_spec.proofs.IntLaws.{mul-sub}
 use Rattle.nz_spec.proofs.VectorLaws.{length-scaled}

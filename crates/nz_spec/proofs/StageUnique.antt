@@ -46,35 +46,35 @@ counts_once P list (k ∷ ks) ((i, m) ∷ xs) ((j, n) ∷ ys) p q =
 CountsStages-unique : (P : List Vector → Vector → Type 0) (start start' : ℕ) (list list' : List Vector) (xs ys : List (ℕ × ℕ)) → start' ≡ start → list' ≡ list → CountsStages P start list xs → CountsStages P start' list' ys → xs ≡ ys
 CountsStages-unique P start start' list list' xs ys e f p q =
     counts_once P list (range_with_len start (length list + 1 - start)) xs ys p
-      (subst (λ (ls : List Vector). CountsStages P start ls ys) f (subst (λ (n : ℕ). CountsStages P n list' ys) e q))
+    (subst (λ (ls : List Vector). CountsStages P start ls ys) f (subst (λ (n : ℕ). CountsStages P n list' ys) e q))
 
 pub AreStages-unique : (w : ℕ) (Lattice : Vector → Type 0) → ((x : Vector) → Lattice x → HasWidth w x) → (rows : List Vector) (xs ys : List (ℕ × ℕ)) → AreStages w Lattice rows xs → AreStages w Lattice rows ys → xs ≡ ys
 AreStages-unique w Lattice wide rows xs ys p q =
     CountsStages-unique (λ first. IsIrreducible (IsInStage Lattice first)) p.rank q.rank p.ordered q.ordered xs ys
-      (HasRank-unique w Lattice q.rank p.rank wide q.has_rank p.has_rank)
-      (IsIndependentFirst-unique (IsFreshRow Lattice) rows q.ordered p.ordered q.in_order p.in_order) p.counts q.counts
+    (HasRank-unique w Lattice q.rank p.rank wide q.has_rank p.has_rank)
+    (IsIndependentFirst-unique (IsFreshRow Lattice) rows q.ordered p.ordered q.in_order p.in_order) p.counts q.counts
 
 pub ArePlacings-unique : (w : ℕ) (vs : List Vector) (xs ys : List (ℕ × ℕ)) → Each (HasWidth w) vs → ArePlacings w vs xs → ArePlacings w vs ys → xs ≡ ys
 ArePlacings-unique w [] xs ys wide p q = p ∙ sym q
 ArePlacings-unique w (v ∷ vs) xs ys wide p q =
     CountsStages-unique (IsSupportForm w) p.rank q.rank p.ordered q.ordered xs ys
-      (HasRank-unique w (Contains (v ∷ vs)) q.rank p.rank (λ x c. Each-contains (HasWidth w) (v ∷ vs) x wide c) q.has_rank p.has_rank)
-      (IsIndependentFirst-unique (IsFreshVector w) (v ∷ vs) q.ordered p.ordered q.in_order p.in_order) p.counts q.counts
+    (HasRank-unique w (Contains (v ∷ vs)) q.rank p.rank (λ x c. Each-contains (HasWidth w) (v ∷ vs) x wide c) q.has_rank p.has_rank)
+    (IsIndependentFirst-unique (IsFreshVector w) (v ∷ vs) q.ordered p.ordered q.in_order p.in_order) p.counts q.counts
 
 pub AreDualStages-unique : (s : System) → IsSystem s → (xs ys : List (ℕ × ℕ)) → AreDualStages s xs → AreDualStages s ys → xs ≡ ys
 AreDualStages-unique s is xs ys p q =
     let e = AreEquationsOf-unique s is q.equations p.equations q.are_equations p.are_equations in
     let r = AreRowsOf-unique s q.rows p.rows q.are_rows p.are_rows in
     AreStages-unique s.width (IsInLattice s p.equations) (λ x h. h.width) p.rows xs ys p.stages
-      (subst (λ (rs : List Vector). AreStages s.width (IsInLattice s p.equations) rs ys) r
-        (subst (λ (es : List Vector). AreStages s.width (IsInLattice s es) q.rows ys) e q.stages))
+    (subst (λ (rs : List Vector). AreStages s.width (IsInLattice s p.equations) rs ys) r
+    (subst (λ (es : List Vector). AreStages s.width (IsInLattice s es) q.rows ys) e q.stages))
 
 pub ArePrimalStages-unique : (s : System) (xs ys : List (ℕ × ℕ)) → ArePrimalStages s xs → ArePrimalStages s ys → xs ≡ ys
 ArePrimalStages-unique s xs ys p q =
     let e = IsListOf-unique (StandsBefore s.grading) (StandsBefore-asymmetric s.grading) (IsExtreme (IsMember s)) q.extreme p.extreme q.are_extreme p.are_extreme in
     ArePlacings-unique s.width p.extreme xs ys
-      (Each-weaker (IsExtreme (IsMember s)) (HasWidth s.width) (λ x h. h.irreducible.member.width) p.extreme p.are_extreme.only)
-      p.placings (subst (λ (vs : List Vector). ArePlacings s.width vs ys) e q.placings)
+    (Each-weaker (IsExtreme (IsMember s)) (HasWidth s.width) (λ x h. h.irreducible.member.width) p.extreme p.are_extreme.only)
+    p.placings (subst (λ (vs : List Vector). ArePlacings s.width vs ys) e q.placings)
 
 -- the stages that a watch is told are unique where the stages are
 pub AreTold-unique : (Stages : System → List (ℕ × ℕ) → Type 0) (s : System) → ((xs ys : List (ℕ × ℕ)) → Stages s xs → Stages s ys → xs ≡ ys) → (xs ys : List (ℕ × ℕ)) → AreTold Stages s xs → AreTold Stages s ys → xs ≡ ys

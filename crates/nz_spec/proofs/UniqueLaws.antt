@@ -39,7 +39,7 @@ pub AreConstraints-unique : (s : System) → IsSystem s → (of_group : List Con
 AreConstraints-unique s is of_group cs ds p q =
     p.whole
     ∙ ap₂ (λ es rs. map Zero es ++ map constraint_of s.cg ++ map NotNegative rs ++ map constraint_of of_group)
-        (AreEquationsOf-unique s is p.equations q.equations p.are_equations q.are_equations) (AreRowsOf-unique s p.rows q.rows p.are_rows q.are_rows)
+    (AreEquationsOf-unique s is p.equations q.equations p.are_equations q.are_equations) (AreRowsOf-unique s p.rows q.rows p.are_rows q.are_rows)
     ∙ sym q.whole
 
 pub IsFirstBroken-unique : (cs : List Constraint) (x : Vector) (c d : Constraint) → IsFirstBroken cs x c → IsFirstBroken cs x d → c ≡ d
@@ -52,7 +52,7 @@ IsFirstBroken-unique cs x c d p q =
 pub IsOutsideConstraint-unique : (s : System) → IsSystem s → (of_group : List Congruence) (x : Vector) (c d : Constraint) → IsOutsideConstraint s of_group x c → IsOutsideConstraint s of_group x d → c ≡ d
 IsOutsideConstraint-unique s is of_group x c d p q =
     IsFirstBroken-unique p.constraints x c d p.first
-      (subst (λ (es : List Constraint). IsFirstBroken es x d) (AreConstraints-unique s is of_group q.constraints p.constraints q.are_constraints p.are_constraints) q.first)
+    (subst (λ (es : List Constraint). IsFirstBroken es x d) (AreConstraints-unique s is of_group q.constraints p.constraints q.are_constraints p.are_constraints) q.first)
 
 -- two vectors of one width are the same or not
 pub same_or_not : (x y : Vector) → length x ≡ length y → (x ≡ y) ⊎ (x ≢ y)

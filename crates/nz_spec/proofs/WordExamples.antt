@@ -1,21 +1,23 @@
 -- Worked examples of single words: the vector of a line, dual forms, floor sums, vertices, and the first element.
-use Rattle.std.proofs.Common.{◌≡◌, ◌≢◌, ℕ, zero, suc, ◌⊎◌, inl, inr, List, [], ◌∷◌, length, ℤ, pos, negsuc, ◌+ℤ◌, ◌-ℤ◌, ◌*ℤ◌, ◌≤ℤ◌, ◌<ℤ◌, Some, None, Contains, refl, sym, ap, ap₂, ◌∙◌, subst, arith, false}
+use Rattle.std.proofs.Common.{◌≡◌, ◌≢◌, inl, inr, [], ◌∷◌, ℤ, pos, negsuc, ◌+ℤ◌, ◌-ℤ◌, ◌*ℤ◌, ◌≤ℤ◌, ◌<ℤ◌, Some, None, refl, sym, ap, ap₂, ◌∙◌, subst, arith, false}
 use Rattle.std.proofs.lemmas.Int.{ints}
 use Rattle.nz_spec.specs.Vectors.{Vector, dot, plus, scaled, unit_vectors, IsZero, IsNonzero}
 use Rattle.nz_spec.specs.Order.{StandsBefore}
 use Rattle.nz_spec.specs.Forms.{IsDualForm, IsNormalForm}
-use Rattle.nz_spec.specs.Boxes.{IsFloorSum}
+use Rattle.nz_spec.specs.Boxes.{IsFloor, IsFloorSum}
 use Rattle.nz_spec.specs.Systems.{System, IsMember}
 use Rattle.nz_spec.specs.Monoids.{IsLeastLine, IsIrreducible, IsAlong}
-use Rattle.nz_spec.specs.Elements.{IsHilbertElement, IsRayElement, IsVertexElement, IsFirstNotPositive}
-use Rattle.std.proofs.Math.IntN.{*ℤ_comm}
+use Rattle.nz_spec.specs.Elements.{IsRayElement, IsVertexElement, IsFirstNotPositive, IsSupportDescription, IsCoverOf}
+use Rattle.nz_spec.specs.Constraints.{NotNegative, IsOutsideConstraint}
+use Rattle.std.proofs.Math.IntN.{*ℤ_comm, *ℤ-zero}
 use Rattle.nz_spec.proofs.IntLaws.{int_cases, zero_or_one, sub-mul}
 use Rattle.nz_spec.proofs.VectorLaws.{zero_or_not}
 use Rattle.nz_spec.proofs.PrimitiveLaws.{one_of_divisor}
 use Rattle.nz_spec.proofs.LevelLaws.{module_irreducible}
 use Rattle.nz_spec.proofs.ListLaws.{contains_here, contains_there}
-use Rattle.nz_spec.proofs.Examples.{two, half_plane, half_plane_line, above_level, above_level_module}
-use Rattle.nz_spec.proofs.CoverExamples.{left, right, wedge, wedge_independent, no_other}
+use Rattle.nz_spec.proofs.Examples.{two, half_plane, half_plane_line, above_level, above_level_module, above_level_recession}
+use Rattle.nz_spec.proofs.CoverExamples.{left, right, wedge, wedge_independent, wedge_rank, contains_one, no_other}
+use Rattle.nz_spec.proofs.WedgeExamples.{wedge_system, wedge_support, wedge_extreme, wedge_support_list}
 use Rattle.nz_spec.proofs.StageExamples.{above_level_system}
 
 -- the unit vectors with two entries
@@ -108,9 +110,9 @@ above_level_vertex = record {
         let h : b +ℤ d ≡ m *ℤ pos 1 = cc in
         (along a b x e (omega (arith, ints, k, l, g, h)), along c d y f (omega (arith, ints, k, l, g, h)))
 
--- the orthant with the grading x_1 - x_2
-abbrev pub uneven : System
-uneven = record {
+-- the orthant with the grading x_1 + c x_2
+abbrev pub uneven : ℤ → System
+uneven c = record {
   width = 2;
   level = false;
   eq = [];
@@ -118,47 +120,48 @@ uneven = record {
   ge = unit_vectors 2;
   gens = None;
   lat = None;
-  grading = Some (pos 1 ∷ negsuc 0 ∷ []);
+  grading = Some (pos 1 ∷ c ∷ []);
   asked = None;
 }
 
-uneven_member : (a b : ℤ) → pos 0 ≤ℤ a → pos 0 ≤ℤ b → IsMember uneven (a ∷ b ∷ [])
-uneven_member a b h k = record { width = refl; equations = tt; congruences = tt; inequalities = (omega (arith, ints, h), (omega (arith, ints, k), tt)); generated = tt; in_group = tt }
+module _ (c : ℤ) where
+  uneven_member : (a b : ℤ) → pos 0 ≤ℤ a → pos 0 ≤ℤ b → IsMember (uneven c) (a ∷ b ∷ [])
+  uneven_member a b h k = record { width = refl; equations = tt; congruences = tt; inequalities = (omega (arith, ints, h), (omega (arith, ints, k), tt)); generated = tt; in_group = tt }
 
-uneven_signs : (a b : ℤ) → IsMember uneven (a ∷ b ∷ []) → (pos 0 ≤ℤ a) × (pos 0 ≤ℤ b)
-uneven_signs a b m =
-    let h = m.inequalities.0 in
-    let k = m.inequalities.1.0 in
-    (omega (arith, ints, h), omega (arith, ints, k))
+  uneven_signs : (a b : ℤ) → IsMember (uneven c) (a ∷ b ∷ []) → (pos 0 ≤ℤ a) × (pos 0 ≤ℤ b)
+  uneven_signs a b m =
+      let h = m.inequalities.0 in
+      let k = m.inequalities.1.0 in
+      (omega (arith, ints, h), omega (arith, ints, k))
 
-uneven_one : IsIrreducible (IsMember uneven) (pos 0 ∷ pos 1 ∷ [])
-uneven_one = record {
-  member = uneven_member (pos 0) (pos 1) (omega (arith, ints)) (omega (arith, ints));
-  nonzero = λ z. let e = z.1.0 in omega (arith, ints, e);
-  no_sum = λ y z my ny mz nz e.
-      let u = two y my.width in
-      let v = two z mz.width in
-      no_two u.0 u.1 v.0 v.1 (uneven_signs u.0 u.1 (subst (IsMember uneven) u.2 my)) (uneven_signs v.0 v.1 (subst (IsMember uneven) v.2 mz))
+  uneven_one : IsIrreducible (IsMember (uneven c)) (pos 0 ∷ pos 1 ∷ [])
+  uneven_one = record {
+    member = uneven_member (pos 0) (pos 1) (omega (arith, ints)) (omega (arith, ints));
+    nonzero = λ z. let e = z.1.0 in omega (arith, ints, e);
+    no_sum = λ y z my ny mz nz e.
+        let u = two y my.width in
+        let v = two z mz.width in
+        no_two u.0 u.1 v.0 v.1 (uneven_signs u.0 u.1 (subst (IsMember (uneven c)) u.2 my)) (uneven_signs v.0 v.1 (subst (IsMember (uneven c)) v.2 mz))
         (λ k. ny (subst IsZero (sym u.2) k)) (λ k. nz (subst IsZero (sym v.2) k)) (ap₂ plus (sym u.2) (sym v.2) ∙ e);
-}
-  where
-    no_two : (a b c d : ℤ) → ((pos 0 ≤ℤ a) × (pos 0 ≤ℤ b)) → ((pos 0 ≤ℤ c) × (pos 0 ≤ℤ d)) → IsNonzero (a ∷ b ∷ []) → IsNonzero (c ∷ d ∷ []) → plus (a ∷ b ∷ []) (c ∷ d ∷ []) ≡ pos 0 ∷ pos 1 ∷ [] → ⊥
-    no_two a b c d h k n o e =
-        let f : a +ℤ c ≡ pos 0 = cc in
-        let g : b +ℤ d ≡ pos 1 = cc in
-        let p = h.0 in
-        let q = k.0 in
-        elim (zero_or_one b h.1 (let r = k.1 in omega (arith, ints, g, r))) [
-          | inl z ↦ n (omega (arith, ints, f, p, q), (z, tt))
-          | inr z ↦ o (omega (arith, ints, f, p, q), (omega (arith, ints, g, z), tt))
-        ]
+  }
+    where
+      no_two : (a b c d : ℤ) → ((pos 0 ≤ℤ a) × (pos 0 ≤ℤ b)) → ((pos 0 ≤ℤ c) × (pos 0 ≤ℤ d)) → IsNonzero (a ∷ b ∷ []) → IsNonzero (c ∷ d ∷ []) → plus (a ∷ b ∷ []) (c ∷ d ∷ []) ≡ pos 0 ∷ pos 1 ∷ [] → ⊥
+      no_two a b c d h k n o e =
+          let f : a +ℤ c ≡ pos 0 = cc in
+          let g : b +ℤ d ≡ pos 1 = cc in
+          let p = h.0 in
+          let q = k.0 in
+          elim (zero_or_one b h.1 (let r = k.1 in omega (arith, ints, g, r))) [
+            | inl z ↦ n (omega (arith, ints, f, p, q), (z, tt))
+            | inr z ↦ o (omega (arith, ints, f, p, q), (omega (arith, ints, g, z), tt))
+          ]
 
--- an irreducible vector but (0, 1) is (1, 0), of degree 1
-uneven_other : (a b : ℤ) → IsIrreducible (IsMember uneven) (a ∷ b ∷ []) → (pos 0 ∷ pos 1 ∷ []) ≢ (a ∷ b ∷ []) → (a ≡ pos 1) × (b ≡ pos 0)
-uneven_other a b i ne =
-    let s = uneven_signs a b i.member in
-    elim (int_cases a) [
-      | inl z ↦ absurd (elim (zero_or_not (pos 0 ∷ (b -ℤ pos 1) ∷ [])) [
+  -- an irreducible vector but (0, 1) is (1, 0), of degree 1
+  uneven_other : (a b : ℤ) → IsIrreducible (IsMember (uneven c)) (a ∷ b ∷ []) → (pos 0 ∷ pos 1 ∷ []) ≢ (a ∷ b ∷ []) → (a ≡ pos 1) × (b ≡ pos 0)
+  uneven_other a b i ne =
+      let s = uneven_signs a b i.member in
+      elim (int_cases a) [
+        | inl z ↦ absurd (elim (zero_or_not (pos 0 ∷ (b -ℤ pos 1) ∷ [])) [
           | inl e ↦ (let g : b ≡ pos 1 = omega (arith, ints, e.1.0) in ne (cc))
           | inr n ↦ elim (int_cases b) [
             | inl y ↦ i.nonzero (z, (y, tt))
@@ -169,31 +172,107 @@ uneven_other a b i ne =
             ]
           ]
         ])
-      | inr h ↦ elim h [
-        | inl p ↦ elim (zero_or_not ((a -ℤ pos 1) ∷ b ∷ [])) [
-          | inl e ↦ (omega (arith, ints, e.0), e.1.0)
-          | inr n ↦ absurd (let f : pos 1 +ℤ (a -ℤ pos 1) ≡ a = omega (arith, ints) in let g : pos 0 +ℤ b ≡ b = omega (arith, ints) in
-              i.no_sum (pos 1 ∷ pos 0 ∷ []) ((a -ℤ pos 1) ∷ b ∷ []) (uneven_member (pos 1) (pos 0) (omega (arith, ints)) (omega (arith, ints))) (λ z. let e = z.0 in omega (arith, ints, e))
+        | inr h ↦ elim h [
+          | inl p ↦ elim (zero_or_not ((a -ℤ pos 1) ∷ b ∷ [])) [
+            | inl e ↦ (omega (arith, ints, e.0), e.1.0)
+            | inr n ↦ absurd (let f : pos 1 +ℤ (a -ℤ pos 1) ≡ a = omega (arith, ints) in let g : pos 0 +ℤ b ≡ b = omega (arith, ints) in
+                i.no_sum (pos 1 ∷ pos 0 ∷ []) ((a -ℤ pos 1) ∷ b ∷ []) (uneven_member (pos 1) (pos 0) (omega (arith, ints)) (omega (arith, ints))) (λ z. let e = z.0 in omega (arith, ints, e))
                 (uneven_member (a -ℤ pos 1) b (omega (arith, ints, p)) s.1) n (cc))
+          ]
+          | inr p ↦ absurd (let t = s.0 in omega (arith, ints, p, t))
         ]
-        | inr p ↦ absurd (let t = s.0 in omega (arith, ints, p, t))
       ]
-    ]
 
--- with the grading x_1 - x_2, (0, 1) is the first element of the orthant, of degree -1
-pub uneven_first : IsFirstNotPositive uneven (pos 0 ∷ pos 1 ∷ [])
-uneven_first = record {
-  grading = pos 1 ∷ negsuc 0 ∷ [];
-  given = refl;
-  first = record {
-    has = record { irreducible = uneven_one; level_zero = λ h. absurd cc };
-    before = λ y h ne.
-        let u = two y h.irreducible.member.width in
-        let r = uneven_other u.0 u.1 (subst (IsIrreducible (IsMember uneven)) u.2 h.irreducible) (λ e. ne (u.2 ∙ sym e)) in
-        subst (λ (v : Vector). StandsBefore uneven.grading (pos 0 ∷ pos 1 ∷ []) v) (sym u.2) (inl (smaller u.0 u.1 r.0 r.1));
+  -- where c is 0 or less, (0, 1) is the first element of the orthant, of degree c
+  pub uneven_first : c ≤ℤ pos 0 → IsFirstNotPositive (uneven c) (pos 0 ∷ pos 1 ∷ [])
+  uneven_first h0 = record {
+    grading = pos 1 ∷ c ∷ [];
+    given = refl;
+    first = record {
+      has = record { irreducible = uneven_one; level_zero = λ h. absurd cc };
+      before = λ y h ne.
+          let u = two y h.irreducible.member.width in
+          let r = uneven_other u.0 u.1 (subst (IsIrreducible (IsMember (uneven c))) u.2 h.irreducible) (λ e. ne (u.2 ∙ sym e)) in
+          subst (λ (v : Vector). StandsBefore (uneven c).grading (pos 0 ∷ pos 1 ∷ []) v) (sym u.2) (inl (smaller u.0 u.1 r.0 r.1));
+    };
+    not_positive = omega (arith, ints, h0);
+  }
+    where
+      smaller : (a b : ℤ) → a ≡ pos 1 → b ≡ pos 0 → dot (pos 1 ∷ c ∷ []) (pos 0 ∷ pos 1 ∷ []) <ℤ dot (pos 1 ∷ c ∷ []) (a ∷ b ∷ [])
+      smaller a b e f = omega (arith, ints, e, f, h0, ap (λ t. c *ℤ t) f, *ℤ-zero c)
+
+-- with the grading x_1 - x_2 it is refused, and with x_1 as well
+pub uneven_refused : IsFirstNotPositive (uneven (negsuc 0)) (pos 0 ∷ pos 1 ∷ []) × IsFirstNotPositive (uneven (pos 0)) (pos 0 ∷ pos 1 ∷ [])
+uneven_refused = (uneven_first (negsuc 0) (omega (arith, ints)), uneven_first (pos 0) (omega (arith, ints)))
+
+-- 1 is the floor of 5/5, and 0 is not
+pub five_fifths : ¬ IsFloor (pos 5) (pos 5) (pos 0)
+five_fifths h = let k = h.above in omega (arith, ints, k)
+
+-- above the level, (1, 0) is an extreme ray
+pub above_level_ray : IsRayElement above_level (pos 1 ∷ pos 0 ∷ [])
+above_level_ray = record {
+  extreme = record {
+    irreducible = above_level_recession.irreducible;
+    splits_along = λ m a b h ma mb e.
+        let u = two a ma.width in
+        let v = two b mb.width in
+        splits u.0 u.1 v.0 v.1 m a b u.2 v.2 ma mb e;
   };
-  not_positive = omega (arith, ints);
+  level_zero = λ h. refl;
 }
   where
-    smaller : (a b : ℤ) → a ≡ pos 1 → b ≡ pos 0 → dot (pos 1 ∷ negsuc 0 ∷ []) (pos 0 ∷ pos 1 ∷ []) <ℤ dot (pos 1 ∷ negsuc 0 ∷ []) (a ∷ b ∷ [])
-    smaller a b e f = omega (arith, ints, e, f)
+    along : (a b : ℤ) (x : Vector) → x ≡ a ∷ b ∷ [] → b ≡ pos 0 → IsAlong (pos 1 ∷ pos 0 ∷ []) x
+    along a b x e f = record {
+      multiple = pos 1;
+      factor = a;
+      positive = omega (arith, ints);
+      same = (let p : pos 1 *ℤ a ≡ a *ℤ pos 1 = omega (arith, ints) in let q : pos 1 *ℤ b ≡ a *ℤ pos 0 = omega (arith, ints, f) in ap (scaled (pos 1)) e ∙ cc);
+    }
+
+    splits : (a b c d m : ℤ) (x y : Vector) → x ≡ a ∷ b ∷ [] → y ≡ c ∷ d ∷ [] → IsMember above_level x → IsMember above_level y → plus x y ≡ scaled m (pos 1 ∷ pos 0 ∷ []) → IsAlong (pos 1 ∷ pos 0 ∷ []) x × IsAlong (pos 1 ∷ pos 0 ∷ []) y
+    splits a b c d m x y e f p q s =
+        let k = (subst (IsMember above_level) e p).inequalities.1.0 in
+        let l = (subst (IsMember above_level) f q).inequalities.1.0 in
+        let t : plus (a ∷ b ∷ []) (c ∷ d ∷ []) ≡ scaled m (pos 1 ∷ pos 0 ∷ []) = ap₂ plus (sym e) (sym f) ∙ s in
+        let h : b +ℤ d ≡ m *ℤ pos 0 = cc in
+        (along a b x e (omega (arith, ints, k, l, h)), along c d y f (omega (arith, ints, k, l, h)))
+
+-- the outside constraint of (0, 1) is the first, x - level at least 0
+pub above_level_outside : IsOutsideConstraint above_level [] (pos 0 ∷ pos 1 ∷ []) (NotNegative (pos 1 ∷ negsuc 0 ∷ []))
+above_level_outside = record {
+  constraints = NotNegative (pos 1 ∷ negsuc 0 ∷ []) ∷ NotNegative (pos 0 ∷ pos 1 ∷ []) ∷ [];
+  are_constraints = record {
+    equations = [];
+    rows = above_level.ge;
+    are_equations = record { of_gens = []; are_of_gens = refl; whole = refl };
+    are_rows = record { of_gens = []; are_of_gens = refl; whole = refl };
+    no_group = λ h. refl;
+    whole = refl;
+  };
+  first = record { before = []; after = NotNegative (pos 0 ∷ pos 1 ∷ []) ∷ []; whole = refl; met = tt; broken = λ h. omega (arith, ints, h) };
+}
+
+-- the support description of the cone of (1, 3) and (2, 1): two forms and no equation
+pub wedge_description : IsSupportDescription (wedge_system None) wedge_support []
+wedge_description = record {
+  extreme = wedge;
+  are_extreme = wedge_extreme;
+  description = record {
+    support_forms = wedge_support_list;
+    equation_forms = record { columns = []; others = record { in_order = tt; only = tt; each = λ j o. absurd (no_other j o) }; each = tt };
+  };
+}
+
+-- and its cover: the one simplex of both
+pub wedge_cover : IsCoverOf (wedge_system None) wedge ((0 ∷ 1 ∷ []) ∷ [])
+wedge_cover = record {
+  are_extreme = wedge_extreme;
+  good = record {
+    in_order = (tt, tt);
+    simplices = (record { in_order = ((omega arith, tt), (tt, tt)); within = (omega arith, (omega arith, tt)); independent = wedge_independent; full = wedge_rank }, tt);
+    covers = λ x m n. (0 ∷ 1 ∷ [], contains_here (0 ∷ 1 ∷ []) [], m.generated);
+    no_overlap = λ p q c d ne. absurd (ne (sym (contains_one (0 ∷ 1 ∷ []) p c) ∙ contains_one (0 ∷ 1 ∷ []) q d));
+    none = λ e. absurd cc;
+  };
+}
