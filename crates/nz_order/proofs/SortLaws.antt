@@ -1,14 +1,12 @@
 -- Lists of a set: what is sorted and has each element once, what is pushed, inserted, joined or left out.
-use Rattle.std.proofs.Common.{◌≡◌, ◌≢◌, ℕ, zero, suc, ◌+◌, ◌<◌, ◌≤◌, ◌⊎◌, inl, inr, Bool, true, false, List, [], ◌∷◌, ◌++◌, length, get_or, Option, Contains, refl, sym, ap, ◌∙◌, subst, arith, append_assoc, add-one}
+use Rattle.std.proofs.Common.{◌≡◌, ◌≢◌, ℕ, zero, suc, ◌<◌, ◌≤◌, inl, inr, Bool, false, List, [], ◌∷◌, ◌++◌, length, get_or, Option, Contains, refl, sym, ap, ◌∙◌, subst, arith, append_assoc, add-one}
 use Rattle.std.specs.List.{AllByRecursion as Each}
 use Rattle.std.specs.List.Sorted.{IsPermutation, IsSortedBy}
 use Rattle.std.proofs.lemmas.List.Sorted.{Contains-permutation, length_permutation, IsPermutation-sym}
-use Rattle.std.proofs.lemmas.List.Elements.{Contains-append_left, Contains-append_right}
 use Rattle.nz_spec.specs.Vectors.{Vector, HasWidth}
-use Rattle.nz_spec.specs.Order.{IsLexBefore, StandsBefore, Pairwise, IsListOf, ListsOnce, HasNumber, MoreThan}
-use Rattle.nz_spec.proofs.ListLaws.{contains_here, contains_there, contains_none, contains_cases, Each-contains, Each-from_contains, Each-weaker, different_within}
-use Rattle.nz_order.specs.Picks.{Picks, none, keep, skip}
-use Rattle.nz_order.proofs.OrderLaws.{stands_irreflexive, stands_transitive, stands_cases, Each-push, Each-both, Pairwise-push}
+use Rattle.nz_spec.specs.Order.{StandsBefore, Pairwise, IsListOf, ListsOnce, HasNumber, MoreThan}
+use Rattle.nz_spec.proofs.ListLaws.{contains_here, contains_there, contains_cases, Each-contains, Each-from_contains, Each-weaker, different_within}
+use Rattle.nz_order.proofs.OrderLaws.{stands_transitive, stands_cases, Pairwise-push}
 
 pub Pairwise-weaker : {A : Type 0} (R S : A → A → Type 0) → ((x y : A) → R x y → S x y) → (xs : List A) → Pairwise R xs → Pairwise S xs
 Pairwise-weaker R S f [] h = tt
