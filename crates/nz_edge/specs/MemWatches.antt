@@ -1,5 +1,5 @@
 -- What a watch in memory tells, and when it asks to stop.
-use Rattle.std.specs.Prelude.{◌≡◌, ℕ, List, ◌-◌, ◌≤◌, ◌↔◌, ◌⊎◌, [], Option, Some, None, Bool, true, false, IsTrue, IsFalse, length, option_map, if◌then◌else◌, IsSomeAnd, MatchBool}
+use Rattle.std.specs.Prelude.{◌≡◌, ℕ, List, ◌-◌, ◌≤◌, ◌↔◌, ◌⊎◌, [], Option, Some, None, Bool, IsTrue, IsFalse, length, option_map, if◌then◌else◌, IsSomeAnd, MatchBool}
 use Rattle.nz_edge.specs.Counts.{raised}
 use Rattle.nz_edge.specs.declared.mem_watch.MemWatch.{MemWatch}
 use Rattle.nz_edge.specs.Watching.{Pair}
