@@ -1,0 +1,23 @@
+use Rattle.std.proofs.Common.{◌≡◌, ◌<◌, ◌++◌, ◌∷◌, [], length, get_or, take, ap, sym, ◌∙◌, arith, append_assoc, subst, rules}
+use Rattle.std.proofs.lemmas.List.{take_all}
+use Rattle.std.specs.Prelude.{OnOk}
+use Rattle.nz_vec.specs.Texts.{Text}
+use Rattle.std.proofs.Math.Facts.{to_z-of_z}
+use Rattle.std.specs.Fmt.{signed_decimal}
+use Rattle.nz_blocks.specs.Columns.{cells, spaced, gap, right_aligned}
+use Rattle.nz_blocks.specs.Output.{line}
+use Rattle.nz_blocks.proofs.Laying.{row_more, row_whole}
+use Rattle.nz_blocks.proofs.columns.put_row.Goals as goal
+use mir.Val.{SFits}
+use Rattle.std.specs.Int.{w128}
+
+pub loop-place-preserved : goal.loop-place-preserved
+loop-place-preserved c =
+    let fits : SFits w128 c.at.result = search rules in
+    let number = to_z-of_z {w = w128} {z = c.at.result} fits in
+    let text = ap (λ z. c.loop-place.out ++ (gap c.loop-place.place ++ right_aligned (get_or c.args.widths.now c.loop-place.place 0) (signed_decimal z))) (number ∙ c.at.ensures) in
+    row_more (λ j. get_or c.args.widths.now j 0) c.args.row.now c.loop-place.place c.args.out.now c.loop-place.out c.put_cell.new.out (omega (arith, c.len-place-end.ensures)) c.loop-place.invariant (c.in_ok-put_cell.ensures ∙ text)
+
+pub returns : goal.returns
+returns c = row_whole (λ j. get_or c.args.widths.now j 0) c.args.row.now c.loop-place.place c.args.out.now c.loop-place.out c.push.new.self c.push.result (omega (arith, c.len-place-end.ensures)) c.loop-place.invariant c.push.ensures.ok
+

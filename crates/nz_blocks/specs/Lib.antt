@@ -1,0 +1,3 @@
+pub mod Outcomes
+pub mod Columns
+pub mod Output

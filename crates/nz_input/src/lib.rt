@@ -1,0 +1,21 @@
+//! The grammar of input files.
+//! The one contract: `read` gives a file exactly where the bytes are a text of it, and else the first place that no text can have, with its fault.
+//! Below stand the pieces of `nz_text` and the lists of `nz_vec`.
+//! `nz_system` gives a file its meaning, and `nz_run` reads it and writes its refusals.
+//! Begin with `specs/Texts.antt`, where the texts of a file are defined, and `specs/Refusals.antt`.
+#![tactic(auto)]
+
+mod file;
+mod kind;
+mod reading;
+mod refusal;
+mod symbol;
+mod writing;
+
+pub use file::{File, Goals, Item, Items};
+pub use kind::{Goal, Kind, Mode, WORDS, Word};
+pub use nz_vec::NoMemory;
+pub use reading::read;
+pub use refusal::{Fault, ReadRefusal};
+pub use symbol::{Role, Symbol};
+pub use writing::write;

@@ -1,0 +1,4 @@
+pub mod Gaps
+pub mod Spots
+pub mod Stepping
+pub mod Scanning
