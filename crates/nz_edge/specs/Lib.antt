@@ -5,3 +5,4 @@ pub mod Watching
 pub mod Calls
 pub mod Memory
 pub mod Places
+pub mod MemWatches
