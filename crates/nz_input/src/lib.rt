@@ -5,10 +5,13 @@
 //! Begin with `specs/Texts.antt`, where the texts of a file are defined, and `specs/Refusals.antt`.
 #![tactic(auto)]
 
+mod fault;
 mod file;
 mod kind;
+mod reader;
 mod reading;
 mod refusal;
+mod spell;
 mod symbol;
 mod writing;
 
