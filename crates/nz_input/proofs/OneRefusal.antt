@@ -10,16 +10,19 @@ use Rattle.nz_input.specs.declared.symbol.Role.TheVariants.{First, Dimensional}
 use Rattle.nz_input.specs.declared.symbol.Symbol.{Symbol}
 use Rattle.nz_input.specs.declared.symbol.Symbol.TheVariants.{Amb, Dimension, Begin, Count, Number}
 use Rattle.nz_text.specs.Bytes.{class_of, IsGap, IsSolid, IsEdge, IsOpenComment}
-use Rattle.nz_text.specs.Skip.{Reaches, skip}
+use Rattle.nz_text.specs.Skip.{Reaches, Opens, skip}
 use Rattle.nz_input.specs.Sit.{Sit, AtFirst, AtDimension, wants, next, Steps, Accepts}
 use Rattle.nz_text.proofs.Gaps.{skip-gap, skip-nil}
 use Rattle.nz_input.proofs.Pieces.{spells-solid, spells-some, spells-one}
-use Rattle.nz_input.proofs.Laying.{append-some, reaches-is, same-run, skip-piece, gap-edge}
+use Rattle.nz_input.proofs.Laying.{append-some, reaches-is, same-run, skip-piece, gap-edge, lays-edge, edge-append, regroup}
 use Rattle.nz_input.proofs.Completing.{prefix-part}
 use Rattle.nz_input.proofs.Refusing.{accepts-symbols}
 use Rattle.nz_input.specs.Symbols.{Spells, symbols}
 use Rattle.nz_input.specs.Texts.{Parts, Lays, Separator, Gap, Break}
-use Rattle.nz_input.specs.Refusals.{IsTextPrefix, role_of, IsNext, Precedes, Ends, IsRefused, EndsAt, AtPiece, InComment, Site}
+use Rattle.nz_input.specs.Refusals.{IsTextPrefix, role_of, IsNext, Precedes, Ends, IsRefused, EndsAt, AtPiece, InComment, Site, IsRefusedAt, fault_at}
+use Rattle.nz_input.specs.Prefixes.{first_of}
+use Rattle.nz_text.specs.Places.{line_at, column_at}
+use Rattle.nz_text.proofs.Stepping.{open-opens}
 
 -- ---- one place
 
@@ -143,3 +146,67 @@ one-piece t r s b c (done, n, p, solid) (done2, n2, p2, solid2) =
     let same = chain-one done done2 AtFirst w.mid v.mid t b c solid solid2 w.steps v.steps (chain Gap done t b solid p) (chain Gap done2 t c solid2 p2) in
     let mids : w.mid ≡ v.mid = steps-one AtFirst done w.mid v.mid w.steps (subst (λ (l : List Symbol). Steps AtFirst l v.mid) (sym same.symbols_same) v.steps) in
     record { role_same = w.role_is ∙ ap wants mids ∙ sym v.role_is; begun_same = same.begun_same }
+
+-- ---- a comment, or a piece
+
+-- pieces, and then an open comment
+abbrev OpenChain : List Symbol → List ℕ → Type 0
+OpenChain [] t = skip Outside t ≡ Opens []
+OpenChain (s ∷ ss) t = (piece rest : List ℕ) × (skip Outside t ≡ Reaches (piece ++ rest)) × Spells s piece × IsEdge rest × OpenChain ss rest
+
+open-edge : (comment : List ℕ) → IsOpenComment comment → IsEdge comment
+open-edge [] h = tt
+open-edge (a ∷ []) h = rw h (λ e. cc)
+open-edge (a ∷ b ∷ body) h = rw (h.0) (λ e. cc)
+
+laid-open : (before : Separator) (ss : List Symbol) (front comment : List ℕ) → Lays before ss front → IsOpenComment comment → OpenChain ss (front ++ comment)
+laid-open before [] front comment g h = skip-gap front comment g ∙ open-opens comment h
+laid-open before (s ∷ ss) front comment (gap, piece, rest, whole, parts, spells, others) h = (
+  piece,
+  rest ++ comment,
+  rw (whole, regroup) (skip-gap gap (piece ++ (rest ++ comment)) (parts-is-gap before gap parts) ∙ skip-piece piece (rest ++ comment) (spells-solid s piece spells) (spells-some s piece spells)),
+  spells,
+  edge-append rest comment (lays-edge ss rest others) (open-edge comment h),
+  laid-open Break ss rest comment others h,
+)
+
+open-nil : (ss : List Symbol) → OpenChain ss [] → ⊥
+open-nil [] h = let bad : Reaches [] ≡ Opens [] = sym skip-nil ∙ h in absurd cc
+open-nil (s ∷ ss) (piece, rest, found, spells, edge, others) = append-some piece rest (spells-some s piece spells) (reaches-is _ _ (sym found ∙ skip-nil))
+
+-- not both
+chain-open : (ss qs : List Symbol) (t begun : List ℕ) → IsSolid begun → Chain ss t begun → OpenChain qs t → ⊥
+chain-open [] [] t begun solid p q = let bad : Reaches begun ≡ Opens [] = sym p ∙ q in absurd cc
+chain-open (x ∷ ss) [] t begun solid (piece, rest, found, spells, edge, some, others) q = let bad : Reaches (piece ++ rest) ≡ Opens [] = sym found ∙ q in absurd cc
+chain-open [] (y ∷ qs) t begun solid p (piece, rest, found, spells, edge, others) =
+    let same : begun ≡ piece ++ rest = reaches-is _ _ (sym p ∙ found) in
+    let none : rest ≡ [] = edge-solid rest edge (solid-back piece rest (subst IsSolid same solid)) in
+    open-nil qs (subst (OpenChain qs) none others)
+chain-open (x ∷ ss) (y ∷ qs) t begun solid (piece, rest, found, spells, edge, some, others) (piece2, rest2, found2, spells2, edge2, others2) =
+    let same = same-run piece piece2 rest rest2 (spells-solid x piece spells) (spells-solid y piece2 spells2) edge edge2 (reaches-is _ _ (sym found ∙ found2)) in
+    chain-open ss qs rest begun solid others (subst (OpenChain qs) (sym same.1) others2)
+
+not-both : (t : List ℕ) (r : Role) (b : List ℕ) → EndsAt t InComment → EndsAt t (AtPiece r b) → ⊥
+not-both t r b (done, front, comment, whole, laid, is_open) (done2, n, p, solid) =
+    chain-open done2 done t b solid (chain Gap done2 t b solid p) (subst (OpenChain done) (sym whole) (laid-open Gap done front comment laid is_open))
+
+-- the fault of a prefix is that of any of its sites
+one-fault : (t : List ℕ) (x y : Site) (next : Option ℕ) → EndsAt t x → EndsAt t y → fault_at x next ≡ fault_at y next
+one-fault t InComment InComment next a b = refl
+one-fault t InComment (AtPiece s c) next a b = absurd (not-both t s c a b)
+one-fault t (AtPiece r c) InComment next a b = absurd (not-both t r c b a)
+one-fault t (AtPiece r b) (AtPiece s c) next p q =
+    let same = one-piece t r s b c p q in
+    ap (λ (z : Role). fault_at (AtPiece z b) next) same.role_same ∙ ap (λ (z : List ℕ). fault_at (AtPiece s z) next) same.begun_same
+
+fault-one : (bytes : List ℕ) (at other : ℕ) (f g : Fault) → IsRefused bytes at f → IsRefused bytes other g → f ≡ g
+fault-one bytes at other f g r q =
+    let same = longest-one [] r.before r.rest q.before q.rest (sym r.whole ∙ q.whole) r.begins r.ends q.begins q.ends in
+    let rests : r.rest ≡ q.rest = append_cancel_left q.before r.rest q.rest (ap (λ (x : List ℕ). x ++ r.rest) (sym same) ∙ sym r.whole ∙ q.whole) in
+    r.fault_is ∙ one-fault r.before r.site q.site (first_of r.rest) r.site_is (subst (λ (x : List ℕ). EndsAt x q.site) (sym same) q.site_is) ∙ ap (λ (x : List ℕ). fault_at q.site (first_of x)) rests ∙ sym q.fault_is
+
+-- a refusal is the only one
+pub one-refusal : (text : List ℕ) (line column : ℕ) (f : Fault) (line2 column2 : ℕ) (g : Fault) → IsRefusedAt text line column f → IsRefusedAt text line2 column2 g → (line ≡ line2) × (column ≡ column2) × (f ≡ g)
+one-refusal text line column f line2 column2 g r q =
+    let same = one-place text r.at q.at f g r.refused q.refused in
+    (r.line_is ∙ ap (line_at text) same ∙ sym q.line_is, r.column_is ∙ ap (column_at text) same ∙ sym q.column_is, fault-one text r.at q.at f g r.refused q.refused)

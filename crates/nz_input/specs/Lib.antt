@@ -11,3 +11,4 @@ pub mod Progress
 pub mod Stops
 pub mod Shows
 pub mod Reading
+pub mod Laws
