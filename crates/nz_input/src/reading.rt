@@ -41,13 +41,7 @@ fn gap_fault(fault: TextFault) -> Fault
 }
 
 /// What the reader makes of the end of the text. The last piece had the role and began at the start.
-fn finish(
-    reader: Reader,
-    text: &[u8],
-    at: usize,
-    role: Role,
-    start: usize,
-) -> Result<File, Stop>
+fn finish(reader: Reader, text: &[u8], at: usize, role: Role, start: usize) -> Result<File, Stop>
     requires order { start ≤ at }
     requires within { at ≤ length text.now }
     requires kept { reader.state ≡ State.Entry → IsFile (held reader) }
