@@ -1,0 +1,16 @@
+pub mod Pieces
+pub mod Laying
+pub mod Going
+pub mod Completing
+pub mod Refusing
+pub mod Digits
+pub mod WordSearch
+pub mod Building
+pub mod Collecting
+pub mod Keeping
+pub mod PieceByPiece
+pub mod Ending
+pub mod CanonicalText
+pub mod Putting
+pub mod OneFile
+pub mod OneRefusal

@@ -2,9 +2,8 @@
 use Rattle.std.specs.Prelude.{ℕ, ℤ, ◌≡◌, ◌^◌, ◌≤◌, nat_abs, Bool, true, false, List, [], ◌∷◌, ◌++◌, length}
 use Rattle.std.specs.List.{flat_map, AllByRecursion}
 use Rattle.std.specs.Fmt.{decimal, signed_decimal}
-use Rattle.nz_input.specs.declared.kind.Word.TheVariants.{GoalWord, Keyword}
 use Rattle.nz_vec.specs.Texts.{Text}
-use Rattle.nz_input.specs.Words.{text_of, amb_space, is_matrix}
+use Rattle.nz_input.specs.Words.{goal_word, keyword, amb_space, is_matrix}
 use Rattle.nz_input.specs.Files.{FileData, ItemData}
 
 -- with an end of line
@@ -24,8 +23,8 @@ count_text false n = []
 
 -- the keyword with its row count on one line, and each row on its own
 abbrev pub item_text : ItemData → Text
-item_text item = line (text_of (Keyword item.kind) ++ count_text (is_matrix item.kind) (length item.rows)) ++ flat_map (λ row. line (spaced row)) item.rows
+item_text item = line (keyword item.kind ++ count_text (is_matrix item.kind) (length item.rows)) ++ flat_map (λ row. line (spaced row)) item.rows
 
 -- `amb_space` with the dimension, the items, and a line for each goal word
 abbrev pub canonical : FileData → Text
-canonical file = line (amb_space ++ 32 ∷ decimal file.amb) ++ (flat_map item_text file.items ++ flat_map (λ goal. line (text_of (GoalWord goal))) file.goals)
+canonical file = line (amb_space ++ 32 ∷ decimal file.amb) ++ (flat_map item_text file.items ++ flat_map (λ goal. line (goal_word goal)) file.goals)

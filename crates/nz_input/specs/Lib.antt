@@ -5,3 +5,10 @@ pub mod Texts
 pub mod Prefixes
 pub mod Refusals
 pub mod Canonical
+pub mod Decode
+pub mod Sit
+pub mod Progress
+pub mod Stops
+pub mod Shows
+pub mod Reading
+pub mod Laws

@@ -5,15 +5,25 @@
 //! Begin with `specs/Texts.antt`, where the texts of a file are defined, and `specs/Refusals.antt`.
 #![tactic(auto)]
 
+mod fault;
 mod file;
 mod kind;
+mod laws;
+mod reader;
 mod reading;
 mod refusal;
+mod spell;
 mod symbol;
+#[cfg(test)]
+mod tests;
 mod writing;
 
 pub use file::{File, Goals, Item, Items};
 pub use kind::{Goal, Kind, Mode, WORDS, Word};
+pub use laws::{
+    canonical_texts_tell_files, refusals_are_unique, texts_have_one_file, texts_keep_limits,
+    written_files_are_read_back,
+};
 pub use nz_vec::NoMemory;
 pub use reading::read;
 pub use refusal::{Fault, ReadRefusal};

@@ -53,10 +53,10 @@ reach-run (b ∷ t) (suc n) lt le h = skip-solid b t h.0
 pub open-inside : (body : List ℕ) → NoClose body → skip Inside body ≡ Opens []
 open-inside body h = by-says (skip Inside body) (says-skip body Inside)
   where
-  by-says : (r : Skipped) → Says Inside body r → r ≡ Opens []
-  by-says (Reaches rest) p = absurd (h p.0.body (p.0.gap ++ rest) p.0.whole)
-  by-says (Opens rest) (inl o) = absurd (h o.2.body (o.2.gap ++ (o.0 ++ rest)) o.2.whole)
-  by-says (Opens rest) (inr o) = ap Opens o.1
+    by-says : (r : Skipped) → Says Inside body r → r ≡ Opens []
+    by-says (Reaches rest) p = absurd (h p.0.body (p.0.gap ++ rest) p.0.whole)
+    by-says (Opens rest) (inl o) = absurd (h o.2.body (o.2.gap ++ (o.0 ++ rest)) o.2.whole)
+    by-says (Opens rest) (inr o) = ap Opens o.1
 
 -- a comment that is not closed opens
 pub open-opens : (comment : List ℕ) → IsOpenComment comment → skip Outside comment ≡ Opens []

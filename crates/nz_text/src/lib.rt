@@ -10,6 +10,8 @@ mod pieces;
 mod places;
 mod scan;
 mod spans;
+#[cfg(test)]
+mod tests;
 
 pub use found::{Found, Span, TextFault, TextRefusal};
 pub use nz_vec::NoMemory;
