@@ -110,9 +110,9 @@ module _ (Member : Vector → Type 0) (closed : IsClosed Member) (w : ℕ) (wide
           let d = degree f.0 i.member i.nonzero in
           let s : dot form f.0 +ℤ dot form (minus x f.0) ≡ dot form x = sym (dot-plus form f.0 (minus x f.0) (sym (length-minus x f.0 l ∙ l))) ∙ ap (dot form) (plus-minus x f.0 l) in
           subst (IsTotalOf w (Contains H)) (plus-minus x f.0 l)
-            (IsTotalOf-plus w (Contains H) (λ v c. wide v (Each-contains (IsIrreducible Member) H v only c).member) f.0 (minus x f.0)
-              (IsTotalOf-one w (Contains H) f.0 we f.1)
-              (below_bound form degree H only each can n (minus x f.0) (omega (arith, ints, s, d, h)) f.2)))
+          (IsTotalOf-plus w (Contains H) (λ v c. wide v (Each-contains (IsIrreducible Member) H v only c).member) f.0 (minus x f.0)
+          (IsTotalOf-one w (Contains H) f.0 we f.1)
+          (below_bound form degree H only each can n (minus x f.0) (omega (arith, ints, s, d, h)) f.2)))
       | inr all ↦ absurd (some_irreducible Member closed w wide zero_in form degree (suc n) x h m nz (λ e i k. Each-contains (λ e. ¬ Member (minus x e)) H e all (each e i) k))
     ]
   ]
