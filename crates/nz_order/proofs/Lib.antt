@@ -3,5 +3,6 @@ pub mod SortLaws
 pub mod TotalLaws
 pub mod IrreducibleLaws
 pub mod RowLaws
+pub mod CandidateLaws
 pub mod BoxLaws
 pub mod SearchLaws
