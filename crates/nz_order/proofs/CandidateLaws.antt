@@ -89,9 +89,9 @@ cone_split w vs wide x l i =
     let lx : length x ≡ length c = l ∙ sym wc in
     let lengths : length (scaled k ks) ≡ length s.rests = length-scaled k ks ∙ length-map s.counts ∙ s.counts_length ∙ sym s.rests_length in
     let e : scaled k x ≡ plus (scaled k c) r =
-        sym i.same ∙ ap (λ fs. combination w fs vs) (sym s.same) ∙ combination-plus w (scaled k ks) s.rests vs lengths ∙ ap (λ v. plus v r) (combination-scaled w k ks vs) in
+    sym i.same ∙ ap (λ fs. combination w fs vs) (sym s.same) ∙ combination-plus w (scaled k ks) s.rests vs lengths ∙ ap (λ v. plus v r) (combination-scaled w k ks vs) in
     let f : r ≡ scaled k (minus x c) =
-        sym (scaled-minus k x c ∙ ap (λ v. minus v (scaled k c)) (e ∙ plus_comm (scaled k c) r) ∙ minus-plus r (scaled k c) (wr ∙ sym wc ∙ sym (length-scaled k c))) in
+    sym (scaled-minus k x c ∙ ap (λ v. minus v (scaled k c)) (e ∙ plus_comm (scaled k c) r) ∙ minus-plus r (scaled k c) (wr ∙ sym wc ∙ sym (length-scaled k c))) in
     record {
       counts = s.counts;
       point = minus x c;
@@ -146,5 +146,5 @@ candidates_generate w Lattice lattice rows X cover members good x m = elim (zero
           | inr b ↦ stage_wide w Lattice lattice rows v b.member
         ] in
         subst (IsTotalOf w P) s.same
-          (IsTotalOf-plus w P widths sum s.point (IsTotalOf-weaker w (Contains X) P (λ v k. inl k) sum t)
-            (IsTotalOf-one w P s.point (lattice.wide s.point mp.in_lattice) p))
+        (IsTotalOf-plus w P widths sum s.point (IsTotalOf-weaker w (Contains X) P (λ v k. inl k) sum t)
+        (IsTotalOf-one w P s.point (lattice.wide s.point mp.in_lattice) p))

@@ -16,7 +16,7 @@ use Rattle.nz_order.specs.Totals.{IsTotalOf}
 use Rattle.nz_order.proofs.TotalLaws.{IsTotalOf-zero, IsTotalOf-plus, IsTotalOf-member, IsTotalOf-one, nonzero_term}
 
 -- the opposite of what adds up to 0
-opposite_of_sum : (x y : Vector) → length x ≡ length y → IsZero (plus x y) → opposite y ≡ x
+pub opposite_of_sum : (x y : Vector) → length x ≡ length y → IsZero (plus x y) → opposite y ≡ x
 opposite_of_sum [] [] l z = refl
 opposite_of_sum [] (b ∷ y) l z = absurd (omega (arith, l))
 opposite_of_sum (a ∷ x) [] l z = absurd (omega (arith, l))
@@ -30,7 +30,7 @@ zero_of_minus_self : (x : Vector) → IsZero (minus x x)
 zero_of_minus_self [] = tt
 zero_of_minus_self (a ∷ x) = (omega (arith, ints), zero_of_minus_self x)
 
-plus-IsZero : (x z : Vector) → length x ≡ length z → IsZero z → plus x z ≡ x
+pub plus-IsZero : (x z : Vector) → length x ≡ length z → IsZero z → plus x z ≡ x
 plus-IsZero [] [] l h = refl
 plus-IsZero [] (b ∷ z) l h = absurd (omega (arith, l))
 plus-IsZero (a ∷ x) [] l h = absurd (omega (arith, l))

@@ -4,5 +4,6 @@ pub mod TotalLaws
 pub mod IrreducibleLaws
 pub mod RowLaws
 pub mod CandidateLaws
+pub mod InsertLaws
 pub mod BoxLaws
 pub mod SearchLaws

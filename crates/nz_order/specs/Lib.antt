@@ -4,3 +4,4 @@ pub mod Totals
 pub mod Reduction
 pub mod Lattices
 pub mod Candidates
+pub mod Sides
