@@ -6,12 +6,12 @@ use Rattle.nz_spec.specs.Vectors.{Vector, dot, plus, zero_vector, HasWidth, IsZe
 use Rattle.nz_spec.specs.Laws.{IsDegreeOf}
 use Rattle.nz_spec.specs.Monoids.{IsClosed, IsPositive, IsIrreducible}
 use Rattle.nz_spec.proofs.VectorLaws.{dot-plus, dot-zero, dot-IsZero, plus_comm, plus_assoc, zero_or_not}
+use Rattle.nz_spec.proofs.PartsSums.{plus-zero}
 use Rattle.nz_spec.proofs.ListLaws.{Each-weaker, Each-contains}
 use Rattle.nz_order.specs.Totals.{total, IsTotalOf}
 use Rattle.nz_order.specs.Sides.{IsAbove, IsBeneath, IsLower, IsPairSum}
 use Rattle.nz_order.proofs.SortLaws.{Each-append}
 use Rattle.nz_order.proofs.TotalLaws.{total-append, total-to_front, total-member}
-use Rattle.nz_order.proofs.IrreducibleLaws.{plus-IsZero}
 
 -- the sum of the sizes of the row's values
 abbrev measure : Vector → List Vector → ℕ
@@ -68,14 +68,14 @@ module _ (Member : Vector → Type 0) (closed : IsClosed Member) (w : ℕ) (wide
   ]
 
   -- where both sides are cut, an irreducible of the whole is one of its side
-  above_of : (v : Vector) → IsIrreducible Member v → pos 0 ≤ℤ dot h v → IsIrreducible (IsAbove Member h) v
+  pub above_of : (v : Vector) → IsIrreducible Member v → pos 0 ≤ℤ dot h v → IsIrreducible (IsAbove Member h) v
   above_of v i p = record {
     member = record { member = i.member; at_least = p };
     nonzero = i.nonzero;
     no_sum = λ y z my ny mz nz e. i.no_sum y z my.member ny mz.member nz e;
   }
 
-  beneath_of : (v : Vector) → IsIrreducible Member v → dot h v ≤ℤ pos 0 → IsIrreducible (IsBeneath Member h) v
+  pub beneath_of : (v : Vector) → IsIrreducible Member v → dot h v ≤ℤ pos 0 → IsIrreducible (IsBeneath Member h) v
   beneath_of v i p = record {
     member = record { member = i.member; at_most = p };
     nonzero = i.nonzero;
@@ -135,7 +135,7 @@ module _ (Member : Vector → Type 0) (closed : IsClosed Member) (w : ℕ) (wide
         let mt = total-member w Member closed zero_in ts ms in
         elim (zero_or_not (total w ts)) [
           | inr n ↦ absurd (i.no_sum v (total w ts) (record { member = mv; at_least = q.0 }) (term_nonzero v k.0) (record { member = mt; at_least = above_total ts ms q.1 }) n e)
-          | inl z ↦ (let s : v ≡ x = sym (plus-IsZero v (total w ts) (same_width v (total w ts) mv mt) z) ∙ e in
+          | inl z ↦ (let s : v ≡ x = sym (plus-zero v (total w ts) (same_width v (total w ts) mv mt) z) ∙ e in
               elim k.0.1 [
                 | inl c ↦ subst (Contains H) s c
                 | inr lt ↦ absurd (let f = ap (dot form) s in omega (arith, ints, lt, f, at))
@@ -190,7 +190,7 @@ module _ (Member : Vector → Type 0) (closed : IsClosed Member) (w : ℕ) (wide
           beneath = record { irreducible = is_beneath n kn hn; below = omega (arith, ints, dy, dx, de, gp, gn, go, at) };
           positive = hp;
           negative = hn;
-          same = sym (plus-IsZero y (total w others) (same_width y (total w others) my mo) z) ∙ s;
+          same = sym (plus-zero y (total w others) (same_width y (total w others) my mo) z) ∙ s;
         } in
         elim (zero_or_not (total w others)) [
           | inl z ↦ inr (pair z)

@@ -5,5 +5,6 @@ pub mod IrreducibleLaws
 pub mod RowLaws
 pub mod CandidateLaws
 pub mod InsertLaws
+pub mod SideLaws
 pub mod BoxLaws
 pub mod SearchLaws
