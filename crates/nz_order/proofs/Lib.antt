@@ -6,5 +6,6 @@ pub mod RowLaws
 pub mod CandidateLaws
 pub mod InsertLaws
 pub mod SideLaws
+pub mod PairLaws
 pub mod BoxLaws
 pub mod SearchLaws

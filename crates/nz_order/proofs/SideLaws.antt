@@ -62,11 +62,11 @@ module _ (Side : Vector → Type 0) (closed : IsClosed Side) (w : ℕ) (wide : (
         let f = ap (dot form) s in
         let gb = degree b mb nb in
         bounded (dot form a) (λ k h. some_irreducible Side closed w wide zero_in form degree k a h ma na (λ e i rest.
-          let g = degree_split a e ma i.member in
-          let r = degree_at_least (minus a e) rest in
-          none e i (omega (arith, ints, d, f, gb, g, r))
-            (subst (λ (v : Vector). Side (minus v e)) s
-              (subst Side (minus-plus_right a b e (wide a ma ∙ sym (wide e i.member)) (sym l)) (closed (minus a e) b rest mb)))));
+        let g = degree_split a e ma i.member in
+        let r = degree_at_least (minus a e) rest in
+        none e i (omega (arith, ints, d, f, gb, g, r))
+        (subst (λ (v : Vector). Side (minus v e)) s
+        (subst Side (minus-plus_right a b e (wide a ma ∙ sym (wide e i.member)) (sym l)) (closed (minus a e) b rest mb)))));
   }
     where
       bounded : (d : ℤ) → ((k : ℕ) → d ≤ℤ pos k → ⊥) → ⊥
@@ -98,9 +98,9 @@ module _ (Side : Vector → Type 0) (closed : IsClosed Side) (w : ℕ) (wide : (
           let s = degree_split x f.0 m i.member in
           let r = degree_at_least (minus x f.0) f.2 in
           subst (IsTotalOf w (IsLower Side form t)) (plus-minus x f.0 l)
-            (IsTotalOf-plus w (IsLower Side form t) (λ v c. wide v c.irreducible.member) f.0 (minus x f.0)
-              (IsTotalOf-one w (IsLower Side form t) f.0 we (record { irreducible = i; below = omega (arith, ints, s, r, lt) }))
-              (lower_bound t K only each can n (minus x f.0) (omega (arith, ints, s, d, h)) (omega (arith, ints, s, d, lt)) f.2)))
+          (IsTotalOf-plus w (IsLower Side form t) (λ v c. wide v c.irreducible.member) f.0 (minus x f.0)
+          (IsTotalOf-one w (IsLower Side form t) f.0 we (record { irreducible = i; below = omega (arith, ints, s, r, lt) }))
+          (lower_bound t K only each can n (minus x f.0) (omega (arith, ints, s, d, h)) (omega (arith, ints, s, d, lt)) f.2)))
       | inr all ↦ absurd (some_irreducible Side closed w wide zero_in form degree (suc n) x h m nz (λ e i k.
           let s = degree_split x e m i.member in
           let r = degree_at_least (minus x e) k in
