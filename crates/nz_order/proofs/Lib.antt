@@ -7,5 +7,6 @@ pub mod CandidateLaws
 pub mod InsertLaws
 pub mod SideLaws
 pub mod PairLaws
+pub mod StageInsert
 pub mod BoxLaws
 pub mod SearchLaws
