@@ -164,6 +164,35 @@ module _ (Member : Vector → Type 0) (closed : IsClosed Member) (w : ℕ) (wide
     lower_beneath : (v : Vector) → IsLower (IsBeneath Member h) form t v → IsTerm v
     lower_beneath v l = (inr l.irreducible, inr l.below)
 
+    -- the terms zs of the sum of p and n in their place
+    replaced : (p n : Vector) (zs others : List Vector) → Each IsTerm zs → Each IsTerm others → total w zs ≡ plus p n → measure h zs < nat_abs (dot h p) + nat_abs (dot h n) → plus (plus p n) (total w others) ≡ x → ((ts : List Vector) → measure h ts < nat_abs (dot h p) + (nat_abs (dot h n) + measure h others) → Each IsTerm ts → total w ts ≡ x → IsFound) → IsFound
+    replaced p n zs others kz ko e less s again =
+        let a = measure-append h zs others in
+        again (zs ++ others) (omega (arith, a, less)) (Each-append IsTerm zs others kz ko)
+        (total-append w zs others (Each-weaker IsTerm (HasWidth w) (λ v k. wide v (term_member v k)) others ko) ∙ ap (λ v. plus v (total w others)) e ∙ s)
+
+    by_up : (p n : Vector) (others : List Vector) → Member p → Member n → Each IsTerm others → pos 0 <ℤ dot h p → dot h n <ℤ pos 0 → plus (plus p n) (total w others) ≡ x → ((ts : List Vector) → measure h ts < nat_abs (dot h p) + (nat_abs (dot h n) + measure h others) → Each IsTerm ts → total w ts ≡ x → IsFound) → IsTotalOf w (IsLower (IsAbove Member h) form t) (plus p n) → IsFound
+    by_up p n others mp mn ko hp hn s again u =
+        let km : Each Member u.terms = Each-weaker (IsLower (IsAbove Member h) form t) Member (λ v l. l.irreducible.member.member) u.terms u.each in
+        let ks : Each (λ v. pos 0 ≤ℤ dot h v) u.terms = Each-weaker (IsLower (IsAbove Member h) form t) (λ v. pos 0 ≤ℤ dot h v) (λ v l. l.irreducible.member.at_least) u.terms u.each in
+        let size = measure_up u.terms km ks in
+        let f = ap (dot h) u.same in
+        let hy = dot-plus h p n (same_width p n mp mn) in
+        let up_size = size_up (dot h p) (omega (arith, ints, hp)) in
+        let down_size = size_down (dot h n) (omega (arith, ints, hn)) in
+        replaced p n u.terms others (Each-weaker (IsLower (IsAbove Member h) form t) IsTerm lower_above u.terms u.each) ko u.same (omega (arith, ints, size, f, hy, up_size, down_size, hp, hn)) s again
+
+    by_down : (p n : Vector) (others : List Vector) → Member p → Member n → Each IsTerm others → pos 0 <ℤ dot h p → dot h n <ℤ pos 0 → plus (plus p n) (total w others) ≡ x → ((ts : List Vector) → measure h ts < nat_abs (dot h p) + (nat_abs (dot h n) + measure h others) → Each IsTerm ts → total w ts ≡ x → IsFound) → IsTotalOf w (IsLower (IsBeneath Member h) form t) (plus p n) → IsFound
+    by_down p n others mp mn ko hp hn s again u =
+        let km : Each Member u.terms = Each-weaker (IsLower (IsBeneath Member h) form t) Member (λ v l. l.irreducible.member.member) u.terms u.each in
+        let ks : Each (λ v. dot h v ≤ℤ pos 0) u.terms = Each-weaker (IsLower (IsBeneath Member h) form t) (λ v. dot h v ≤ℤ pos 0) (λ v l. l.irreducible.member.at_most) u.terms u.each in
+        let size = measure_down u.terms km ks in
+        let f = ap (dot h) u.same in
+        let hy = dot-plus h p n (same_width p n mp mn) in
+        let up_size = size_up (dot h p) (omega (arith, ints, hp)) in
+        let down_size = size_down (dot h n) (omega (arith, ints, hn)) in
+        replaced p n u.terms others (Each-weaker (IsLower (IsBeneath Member h) form t) IsTerm lower_beneath u.terms u.each) ko u.same (omega (arith, ints, size, f, hy, up_size, down_size, hp, hn)) s again
+
     -- p above and n beneath, and the others
     exchange : (p n : Vector) (others : List Vector) → IsTerm p → IsTerm n → Each IsTerm others → pos 0 <ℤ dot h p → dot h n <ℤ pos 0 → plus p (plus n (total w others)) ≡ x → ((ts : List Vector) → measure h ts < nat_abs (dot h p) + (nat_abs (dot h n) + measure h others) → Each IsTerm ts → total w ts ≡ x → IsFound) → IsFound
     exchange p n others kp kn ko hp hn e again =
@@ -180,9 +209,6 @@ module _ (Member : Vector → Type 0) (closed : IsClosed Member) (w : ℕ) (wide
         let gp = degree p mp (term_nonzero p kp) in
         let gn = degree n mn (term_nonzero n kn) in
         let go = degree_nonneg (total w others) mo in
-        let hy = dot-plus h p n (same_width p n mp mn) in
-        let up_size = size_up (dot h p) (omega (arith, ints, hp)) in
-        let down_size = size_down (dot h n) (omega (arith, ints, hn)) in
         let pair : IsZero (total w others) → IsPairSum Member h form t x = λ z. record {
           upper = p;
           lower = n;
@@ -197,24 +223,8 @@ module _ (Member : Vector → Type 0) (closed : IsClosed Member) (w : ℕ) (wide
           | inr nz ↦ (let d1 = degree (total w others) mo nz in
               let small : dot form y <ℤ t = omega (arith, ints, dx, de, d1, at) in
               elim (nonneg_of y) [
-                | inr ge ↦ (let u = up y (record { member = my; at_least = ge }) small in
-                    let km : Each Member u.terms = Each-weaker (IsLower (IsAbove Member h) form t) Member (λ v l. l.irreducible.member.member) u.terms u.each in
-                    let ks : Each (λ v. pos 0 ≤ℤ dot h v) u.terms = Each-weaker (IsLower (IsAbove Member h) form t) (λ v. pos 0 ≤ℤ dot h v) (λ v l. l.irreducible.member.at_least) u.terms u.each in
-                    let size = measure_up u.terms km ks in
-                    let f = ap (dot h) u.same in
-                    let a = measure-append h u.terms others in
-                    again (u.terms ++ others) (omega (arith, ints, size, f, a, hy, up_size, down_size, hp, hn))
-                    (Each-append IsTerm u.terms others (Each-weaker (IsLower (IsAbove Member h) form t) IsTerm lower_above u.terms u.each) ko)
-                    (total-append w u.terms others (Each-weaker Member (HasWidth w) wide others ms) ∙ ap (λ v. plus v (total w others)) u.same ∙ s))
-                | inl lt ↦ (let u = down y (record { member = my; at_most = omega (arith, ints, lt) }) small in
-                    let km : Each Member u.terms = Each-weaker (IsLower (IsBeneath Member h) form t) Member (λ v l. l.irreducible.member.member) u.terms u.each in
-                    let ks : Each (λ v. dot h v ≤ℤ pos 0) u.terms = Each-weaker (IsLower (IsBeneath Member h) form t) (λ v. dot h v ≤ℤ pos 0) (λ v l. l.irreducible.member.at_most) u.terms u.each in
-                    let size = measure_down u.terms km ks in
-                    let f = ap (dot h) u.same in
-                    let a = measure-append h u.terms others in
-                    again (u.terms ++ others) (omega (arith, ints, size, f, a, hy, up_size, down_size, hp, hn))
-                    (Each-append IsTerm u.terms others (Each-weaker (IsLower (IsBeneath Member h) form t) IsTerm lower_beneath u.terms u.each) ko)
-                    (total-append w u.terms others (Each-weaker Member (HasWidth w) wide others ms) ∙ ap (λ v. plus v (total w others)) u.same ∙ s))
+                | inr ge ↦ by_up p n others mp mn ko hp hn s again (up y (record { member = my; at_least = ge }) small)
+                | inl lt ↦ by_down p n others mp mn ko hp hn s again (down y (record { member = my; at_most = omega (arith, ints, lt) }) small)
               ])
         ]
 

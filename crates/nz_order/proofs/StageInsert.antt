@@ -27,16 +27,16 @@ module _ (w : ℕ) (Lattice : Vector → Type 0) (lattice : IsLattice w Lattice)
   above_decided x e p q = elim (stage_decided w Lattice lattice rows x e p.member q.member) [
     | inr n ↦ inr (λ m. n m.member)
     | inl m ↦ by_lt_z (dot h (minus x e)) (pos 0)
-      (λ (lt : dot h (minus x e) <ℤ pos 0). inr (λ k. let a = k.at_least in omega (arith, ints, lt, a)))
-      (λ (ge : pos 0 ≤ℤ dot h (minus x e)). inl (record { member = m; at_least = ge }))
+        (λ (lt : dot h (minus x e) <ℤ pos 0). inr (λ k. let a = k.at_least in omega (arith, ints, lt, a)))
+        (λ (ge : pos 0 ≤ℤ dot h (minus x e)). inl (record { member = m; at_least = ge }))
   ]
 
   beneath_decided : (x e : Vector) → IsBeneath (IsInStage Lattice rows) h x → IsBeneath (IsInStage Lattice rows) h e → IsBeneath (IsInStage Lattice rows) h (minus x e) ⊎ (¬ IsBeneath (IsInStage Lattice rows) h (minus x e))
   beneath_decided x e p q = elim (stage_decided w Lattice lattice rows x e p.member q.member) [
     | inr n ↦ inr (λ m. n m.member)
     | inl m ↦ by_lt_z (pos 0) (dot h (minus x e))
-      (λ (lt : pos 0 <ℤ dot h (minus x e)). inr (λ k. let a = k.at_most in omega (arith, ints, lt, a)))
-      (λ (ge : dot h (minus x e) ≤ℤ pos 0). inl (record { member = m; at_most = ge }))
+        (λ (lt : pos 0 <ℤ dot h (minus x e)). inr (λ k. let a = k.at_most in omega (arith, ints, lt, a)))
+        (λ (ge : dot h (minus x e) ≤ℤ pos 0). inl (record { member = m; at_most = ge }))
   ]
 
   to_above : (x : Vector) → IsIrreducible (IsInStage Lattice (rows ++ h ∷ [])) x → IsIrreducible (IsAbove (IsInStage Lattice rows) h) x
@@ -55,7 +55,7 @@ module _ (w : ℕ) (Lattice : Vector → Type 0) (lattice : IsLattice w Lattice)
   pub kept_above : (x : Vector) → IsInStage Lattice (rows ++ h ∷ []) x → IsNonzero x → ((e : Vector) → IsIrreducible (IsInStage Lattice (rows ++ h ∷ [])) e → dot (total w rows) e <ℤ dot (total w rows) x → ¬ IsInStage Lattice (rows ++ h ∷ []) (minus x e)) → IsIrreducible (IsInStage Lattice (rows ++ h ∷ [])) x
   kept_above x m n none =
       irreducible_from_lower (IsInStage Lattice (rows ++ h ∷ [])) (stage_closed w Lattice lattice (rows ++ h ∷ [])) w (stage_wide w Lattice lattice (rows ++ h ∷ [])) (stage_zero w Lattice lattice (rows ++ h ∷ []))
-        (total w rows) (λ y k nz. old_degree y ((stage_above Lattice rows h y).0 k).member nz) x m n none
+      (total w rows) (λ y k nz. old_degree y ((stage_above Lattice rows h y).0 k).member nz) x m n none
 
   -- and in the same way one of the reversed stage
   pub kept_beneath : (x : Vector) → IsInReversed Lattice rows h x → IsNonzero x → ((e : Vector) → IsIrreducible (IsInReversed Lattice rows h) e → dot (total w rows) e <ℤ dot (total w rows) x → ¬ IsInReversed Lattice rows h (minus x e)) → IsIrreducible (IsInReversed Lattice rows h) x
@@ -63,8 +63,8 @@ module _ (w : ℕ) (Lattice : Vector → Type 0) (lattice : IsLattice w Lattice)
       let M = IsInStage Lattice rows in
       let wide : (v : Vector) → M v → HasWidth w v = stage_wide w Lattice lattice rows in
       from_beneath x (irreducible_from_lower (IsBeneath M h) (beneath_closed M (stage_closed w Lattice lattice rows) w wide h) w (λ v k. wide v k.member) (beneath_zero M w h (stage_zero w Lattice lattice rows))
-        (total w rows) (λ y k nz. old_degree y k.member nz) x ((stage_beneath Lattice rows h x).0 m) n
-        (λ e i lt k. none e (from_beneath e i) lt ((stage_beneath Lattice rows h (minus x e)).1 k)))
+      (total w rows) (λ y k nz. old_degree y k.member nz) x ((stage_beneath Lattice rows h x).0 m) n
+      (λ e i lt k. none e (from_beneath e i) lt ((stage_beneath Lattice rows h (minus x e)).1 k)))
 
   module _ (H : List Vector) (H_only : Each (IsIrreducible (IsInStage Lattice rows)) H) (H_each : (v : Vector) → IsIrreducible (IsInStage Lattice rows) v → Contains H v)
       (P N : List Vector) (P_only : Each (IsIrreducible (IsInStage Lattice (rows ++ h ∷ []))) P) (N_only : Each (IsIrreducible (IsInReversed Lattice rows h)) N)
@@ -80,12 +80,12 @@ module _ (w : ℕ) (Lattice : Vector → Type 0) (lattice : IsLattice w Lattice)
         let wide = stage_wide w Lattice lattice rows in
         let zero_in = stage_zero w Lattice lattice rows in
         sides_complete M closed w wide zero_in positive (total w rows) old_degree h H H_only
-          (member_is_total M closed w wide zero_in (total w rows) old_degree H H_only H_each (stage_decided w Lattice lattice rows))
-          P N (Each-weaker (IsIrreducible (IsInStage Lattice (rows ++ h ∷ []))) (IsIrreducible (IsAbove M h)) to_above P P_only)
-          (Each-weaker (IsIrreducible (IsInReversed Lattice rows h)) (IsIrreducible (IsBeneath M h)) to_beneath N N_only)
-          above_decided beneath_decided b old_above old_beneath
-          (λ p n cp cn hp hn lt i. pair_above p n cp cn hp hn lt (from_above (plus p n) i))
-          (λ p n cp cn hp hn lt i. pair_beneath p n cp cn hp hn lt (from_beneath (plus p n) i))
+        (member_is_total M closed w wide zero_in (total w rows) old_degree H H_only H_each (stage_decided w Lattice lattice rows))
+        P N (Each-weaker (IsIrreducible (IsInStage Lattice (rows ++ h ∷ []))) (IsIrreducible (IsAbove M h)) to_above P P_only)
+        (Each-weaker (IsIrreducible (IsInReversed Lattice rows h)) (IsIrreducible (IsBeneath M h)) to_beneath N N_only)
+        above_decided beneath_decided b old_above old_beneath
+        (λ p n cp cn hp hn lt i. pair_above p n cp cn hp hn lt (from_above (plus p n) i))
+        (λ p n cp cn hp hn lt i. pair_beneath p n cp cn hp hn lt (from_beneath (plus p n) i))
 
     -- below the bound, the first list has every irreducible of the new stage
     pub stage_complete : (x : Vector) → dot (total w rows) x <ℤ b → IsIrreducible (IsInStage Lattice (rows ++ h ∷ [])) x → Contains P x
