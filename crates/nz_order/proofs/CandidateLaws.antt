@@ -1,14 +1,15 @@
 -- Candidates generate: each member is a sum of vectors of the cover and of members in the boxes of its simplices.
-use Rattle.std.proofs.Common.{◌≡◌, ℕ, suc, ◌/◌, ◌%◌, ◌<◌, inl, inr, List, [], ◌∷◌, length, map, ℤ, pos, negsuc, ◌+ℤ◌, ◌*ℤ◌, ◌≤ℤ◌, ◌<ℤ◌, Contains, refl, sym, ap, ◌∙◌, subst, arith}
+use Rattle.std.proofs.Common.{◌≡◌, ◌↔◌, ℕ, suc, ◌/◌, ◌%◌, ◌<◌, inl, inr, List, [], ◌∷◌, length, map, ℤ, pos, negsuc, ◌+ℤ◌, ◌*ℤ◌, ◌≤ℤ◌, ◌<ℤ◌, Contains, refl, sym, ap, ◌∙◌, subst, arith}
 use Rattle.std.proofs.lemmas.Int.{ints}
 use Rattle.std.proofs.Math.IntN.{pos-*ℤ-pos, *ℤ_comm}
 use Rattle.std.proofs.Math.Nat.{mod-lt}
 use Rattle.std.proofs.lemmas.Nat.{div-add-mod'}
 use Rattle.std.proofs.lemmas.List.Elements.{Contains-get_or}
 use Rattle.std.specs.List.{AllByRecursion as Each}
-use Rattle.nz_spec.specs.Vectors.{Vector, dot, plus, minus, scaled, zero_vector, combination, HasWidth}
+use Rattle.nz_spec.specs.Vectors.{Vector, dot, plus, minus, scaled, zero_vector, combination, HasWidth, IsNonzero}
 use Rattle.nz_spec.specs.Sums.{IsInCone, IsInBox}
 use Rattle.nz_spec.specs.Covers.{vectors_at, IsSimplex, IsGoodCover}
+use Rattle.nz_spec.specs.Monoids.{IsPositive, IsIrreducible}
 use Rattle.nz_spec.specs.Stages.{IsInStage}
 use Rattle.nz_spec.proofs.IntLaws.{mul-sub}
 use Rattle.nz_spec.proofs.VectorLaws.{length-scaled, minus-plus, plus-minus, plus_comm, zero_or_not, zero_vector_of}
@@ -19,6 +20,8 @@ use Rattle.nz_order.specs.Lattices.{IsLattice}
 use Rattle.nz_order.specs.Totals.{IsTotalOf}
 use Rattle.nz_order.specs.Candidates.{IsCandidate}
 use Rattle.nz_order.proofs.TotalLaws.{IsTotalOf-zero, IsTotalOf-one, IsTotalOf-plus, IsTotalOf-weaker, IsTotalOf-member, IsTotalOf-counts}
+use Rattle.nz_order.specs.Reduction.{Reduces}
+use Rattle.nz_order.proofs.IrreducibleLaws.{irreducible_listed}
 use Rattle.nz_order.proofs.RowLaws.{stage_wide, stage_closed, stage_zero}
 
 -- factors as whole parts and parts below k
@@ -148,3 +151,9 @@ candidates_generate w Lattice lattice rows X cover members good x m = elim (zero
         subst (IsTotalOf w P) s.same
         (IsTotalOf-plus w P widths sum s.point (IsTotalOf-weaker w (Contains X) P (λ v k. inl k) sum t)
         (IsTotalOf-one w P s.point (lattice.wide s.point mp.in_lattice) p))
+
+-- so the irreducibles are the nonzero vectors of a list with all candidates that no other of the list reduces
+pub candidates_suffice : (w : ℕ) (Lattice : Vector → Type 0) → IsLattice w Lattice → (rows X : List Vector) (cover : List (List ℕ)) → IsPositive (IsInStage Lattice rows) → Each (IsInStage Lattice rows) X → IsGoodCover w (IsInStage Lattice rows) X cover → (K : List Vector) → Each (IsInStage Lattice rows) K → ((v : Vector) → IsCandidate w (IsInStage Lattice rows) X cover v → Contains K v) → (u : Vector) → IsIrreducible (IsInStage Lattice rows) u ↔ (Contains K u × IsNonzero u × Each (λ v. ¬ Reduces (IsInStage Lattice rows) v u) K)
+candidates_suffice w Lattice lattice rows X cover positive members good K all each u =
+    irreducible_listed (IsInStage Lattice rows) (stage_closed w Lattice lattice rows) w (stage_wide w Lattice lattice rows) (stage_zero w Lattice lattice rows) positive K all
+      (λ x m. IsTotalOf-weaker w (IsCandidate w (IsInStage Lattice rows) X cover) (Contains K) each x (candidates_generate w Lattice lattice rows X cover members good x m)) u

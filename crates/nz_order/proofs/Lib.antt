@@ -4,6 +4,7 @@ pub mod TotalLaws
 pub mod IrreducibleLaws
 pub mod RowLaws
 pub mod CandidateLaws
+pub mod PartLaws
 pub mod InsertLaws
 pub mod SideLaws
 pub mod PairLaws
