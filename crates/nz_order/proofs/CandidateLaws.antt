@@ -156,4 +156,4 @@ candidates_generate w Lattice lattice rows X cover members good x m = elim (zero
 pub candidates_suffice : (w : ℕ) (Lattice : Vector → Type 0) → IsLattice w Lattice → (rows X : List Vector) (cover : List (List ℕ)) → IsPositive (IsInStage Lattice rows) → Each (IsInStage Lattice rows) X → IsGoodCover w (IsInStage Lattice rows) X cover → (K : List Vector) → Each (IsInStage Lattice rows) K → ((v : Vector) → IsCandidate w (IsInStage Lattice rows) X cover v → Contains K v) → (u : Vector) → IsIrreducible (IsInStage Lattice rows) u ↔ (Contains K u × IsNonzero u × Each (λ v. ¬ Reduces (IsInStage Lattice rows) v u) K)
 candidates_suffice w Lattice lattice rows X cover positive members good K all each u =
     irreducible_listed (IsInStage Lattice rows) (stage_closed w Lattice lattice rows) w (stage_wide w Lattice lattice rows) (stage_zero w Lattice lattice rows) positive K all
-      (λ x m. IsTotalOf-weaker w (IsCandidate w (IsInStage Lattice rows) X cover) (Contains K) each x (candidates_generate w Lattice lattice rows X cover members good x m)) u
+    (λ x m. IsTotalOf-weaker w (IsCandidate w (IsInStage Lattice rows) X cover) (Contains K) each x (candidates_generate w Lattice lattice rows X cover members good x m)) u

@@ -3,6 +3,7 @@ pub mod SortLaws
 pub mod TotalLaws
 pub mod IrreducibleLaws
 pub mod RowLaws
+pub mod SystemLaws
 pub mod CandidateLaws
 pub mod PartLaws
 pub mod InsertLaws
