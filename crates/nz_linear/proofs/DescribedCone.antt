@@ -1,5 +1,5 @@
 -- Farkas for a list with its support forms and equations: they describe its cone, and each support form is needed.
-use Rattle.std.proofs.Common.{◌≡◌, ℕ, List, [], ◌∷◌, ℤ, pos, negsuc, ◌+ℤ◌, ◌*ℤ◌, ◌≤ℤ◌, ◌<ℤ◌, sym, ap, ap₂, ◌∙◌, subst, arith}
+use Rattle.std.proofs.Common.{Option, Some, None, IfSome, ◌↔◌, ◌≡◌, ℕ, List, [], ◌∷◌, ℤ, pos, negsuc, ◌+ℤ◌, ◌*ℤ◌, ◌≤ℤ◌, ◌<ℤ◌, sym, ap, ap₂, ◌∙◌, subst, arith}
 use Rattle.std.proofs.lemmas.Int.{ints}
 use Rattle.std.proofs.Math.IntN.{*ℤ-zero}
 use Rattle.std.specs.List.{AllByRecursion as Each, AllZip, Contains}
@@ -7,6 +7,10 @@ use Rattle.nz_spec.specs.Vectors.{Vector, dot, plus, scaled, entry, HasWidth, Is
 use Rattle.nz_spec.specs.Sums.{IsInCone}
 use Rattle.nz_spec.specs.Forms.{IsEquationAt, AreEquations, IsSupportForm}
 use Rattle.nz_spec.specs.Laws.{IsDescribedCone}
+use Rattle.nz_spec.specs.Systems.{System, IsSystem, IsMember}
+use Rattle.nz_spec.specs.Constraints.{AreEquationsOf, AreRowsOf}
+use Rattle.nz_spec.specs.Stages.{IsInLattice, IsInStage}
+use Rattle.nz_spec.proofs.StageLaws.{members_last_stage}
 use Rattle.nz_spec.proofs.VectorLaws.{dot-scaled, dot-IsZero}
 use Rattle.nz_spec.proofs.IntLaws.{mul-nonneg}
 use Rattle.nz_spec.proofs.ListLaws.{Each-contains, Each-from_contains}
@@ -135,3 +139,12 @@ described_cone w G lG support equations s e x lx = (
   (λ i. (each_map (IsSupportForm w G) (λ f. pos 0 ≤ℤ dot f x) support (λ f k. nonneg_on_cone f w G x lG k.at_least i) s.only, equations_zero w G x e.columns equations lG e.each i)),
   (λ h. described_back w G support equations x lG lx s.each e h.0 h.1),
 )
+
+-- ---- the members of a system
+some_described : (w : ℕ) (o : Option (List Vector)) → IfSome o (λ G. Each (HasWidth w) G) → IfSome o (IsDescribedCone w)
+some_described w None l = tt
+some_described w (Some G) l = described_cone w G l
+
+-- the members of a system are its last stage
+pub members_are_last_stage : (s : System) (equations rows : List Vector) → IsSystem s → AreEquationsOf s equations → AreRowsOf s rows → (x : Vector) → IsMember s x ↔ IsInStage (IsInLattice s equations) rows x
+members_are_last_stage s equations rows is e r = members_last_stage s equations rows e r (some_described s.width s.gens is.gens_width)

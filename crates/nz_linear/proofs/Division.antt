@@ -12,7 +12,7 @@ use Rattle.nz_linear.proofs.Ring.{sums, ring_z, one-mul, mul-one}
 use Rattle.nz_linear.proofs.Signs.{cancel_lt, cancel_mul, mul_le, mul_is_pos, sign_cases}
 use Rattle.nz_linear.proofs.Lists.{each_map}
 use Rattle.nz_spec.proofs.VectorLaws.{dot-IsZero, dot-scaled}
-use Rattle.nz_linear.proofs.VectorLaws.{cons_same, scaled-dot, cancel_scaled}
+use Rattle.nz_linear.proofs.VectorLaws.{length-scaled, cons_same, scaled-dot, cancel_scaled}
 
 -- ---- floor division
 pub record Floor (x d : ℤ) : Type 0 where
@@ -230,3 +230,10 @@ gcd_multiple g a m c (t, e) = (a *ℤ t, ap (λ x. (g *ℤ a) *ℤ x) e ∙ ring
   where
     ring_back : (g a m t : ℤ) → (g *ℤ a) *ℤ (t *ℤ m) ≡ (a *ℤ t) *ℤ (g *ℤ m)
     ring_back g a m t = simp ring_z
+
+pub primitive_of_unique : (w : ℕ) (x y z : Vector) → length x ≡ w → IsPrimitiveOf x y → IsPrimitiveOf x z → y ≡ z
+primitive_of_unique w x y z l i j =
+    primitive_unique w i.factor j.factor y z i.positive j.positive (wide y i) (wide z j) (i.same ∙ sym j.same) i.primitive j.primitive
+  where
+    wide : (v : Vector) → IsPrimitiveOf x v → length v ≡ w
+    wide v k = sym (length-scaled (length v) k.factor v refl) ∙ ap length k.same ∙ l

@@ -9,6 +9,7 @@ use Rattle.nz_spec.proofs.SumLaws.{IsInCone-zero, length-zero_vector, IsInCone-p
 use Rattle.nz_spec.proofs.ConstraintLaws.{nonneg_on_cone}
 use Rattle.nz_spec.proofs.IntLaws.{mul-nonneg}
 use Rattle.nz_linear.specs.Cones.{Satisfies, IsDoubleDescription, meet, IsCut}
+use Rattle.nz_spec.proofs.ListLaws.{Each-contains, Each-from_contains}
 use Rattle.nz_linear.proofs.Ring.{cross_gone, sums, ring_z, one-mul, neg-mul}
 use Rattle.nz_linear.proofs.Lists.{each_map, each_map2, each_map3, each_map4, each_append, each_left, each_right, each_of_map, map_each}
 use Rattle.nz_spec.proofs.VectorLaws.{dot-scaled, zero-dot}
@@ -240,3 +241,12 @@ cone_satisfies w rows rays x d i =
 
     by : (fs : List Vector) → Each (λ a. Each (λ r. pos 0 ≤ℤ dot a r) rays) fs → Satisfies fs x
     by fs s = each_map (λ a. Each (λ r. pos 0 ≤ℤ dot a r) rays) (λ a. pos 0 ≤ℤ dot a x) fs (λ a k. nonneg_on_cone a w rays x d.ray_widths k i) s
+
+-- rows and rays change places
+pub swapped : (w : ℕ) (rows rays : List Vector) → IsDoubleDescription w rows rays → IsDoubleDescription w rays rows
+swapped w rows rays d = record {
+  row_widths = d.ray_widths;
+  ray_widths = d.row_widths;
+  sound = Each-from_contains (Satisfies rays) rows (λ a c. each_map (Satisfies rows) (λ r. pos 0 ≤ℤ dot r a) rays (λ r s. rw (dot_comm r a) (Each-contains (λ b. pos 0 ≤ℤ dot b r) rows a s c)) d.sound);
+  farkas = λ y ly s. generated w rows rays y d ly s;
+}

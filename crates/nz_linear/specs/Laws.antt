@@ -1,0 +1,135 @@
+-- The theorems on rows, rays, elimination and forms that the engines rest on.
+use Rattle.std.specs.Prelude.{◌≡◌, ◌≢◌, ◌↔◌, ◌⊎◌, ℕ, ◌+◌, ◌<◌, List, [], ◌∷◌, ◌++◌, length, map, ℤ, pos, ◌<ℤ◌, Contains}
+use Rattle.std.specs.List.{AllByRecursion as Each, AllZip}
+use Rattle.nz_spec.specs.Vectors.{Vector, dot, minus, combination, HasWidth, IsNonzero, IsPrimitive}
+use Rattle.nz_spec.specs.Sums.{IsInCone, IsInSpan, IsInBox, HasRank}
+use Rattle.nz_spec.specs.Order.{Pairwise, IsListOf}
+use Rattle.nz_spec.specs.Boxes.{IsFloor}
+use Rattle.nz_spec.specs.Monoids.{IsExtreme}
+use Rattle.nz_spec.specs.Forms.{IsOtherColumn, AreEquations, IsSupportForm, AreSupportForms, IsNeeded}
+use Rattle.nz_spec.specs.Systems.{System, IsSystem, IsMember}
+use Rattle.nz_spec.specs.Constraints.{AreEquationsOf, AreRowsOf}
+use Rattle.nz_spec.specs.Stages.{IsInLattice, IsInStage}
+use Rattle.nz_spec.specs.Laws.{IsDescribedCone}
+use Rattle.nz_linear.specs.DualPairs.{Pair, divisor, IsDualPair, OnlyZero}
+use Rattle.nz_linear.specs.Elimination.{IsPivotStep, IsState, unit_pairs, CommonZero, DualOfRows}
+use Rattle.nz_linear.specs.Echelon.{AreColumnPairs}
+use Rattle.nz_linear.specs.Division.{IsGcdOf, HasUnitValue, IsPrimitiveOf}
+use Rattle.nz_linear.specs.Cones.{Satisfies, IsInRows, IsDoubleDescription, meet}
+use Rattle.nz_linear.specs.Extreme.{IsPointed}
+use Rattle.nz_linear.specs.RayStep.{AreExtremeRays, IsRayStep, RayPair, IsAdjacentPair}
+use Rattle.nz_linear.specs.Facets.{facet_rows}
+
+-- ---- rows and rays
+-- each list of rows has a list of rays that describes it
+abbrev pub RaysExist : Type 0
+RaysExist = (w : ℕ) (rows : List Vector) → Each (HasWidth w) rows → (rays : List Vector) × IsDoubleDescription w rows rays
+
+-- Farkas: the rows are at least 0 just on the cone of the rays, and the rays are at least 0 just on the cone of the rows
+abbrev pub RaysGenerate : Type 0
+RaysGenerate = (w : ℕ) (rows rays : List Vector) → IsDoubleDescription w rows rays → (x : Vector) → HasWidth w x → (Satisfies rows x ↔ IsInCone w rays x) × (Satisfies rays x ↔ IsInCone w rows x)
+
+-- ---- elimination
+-- rows vanish together at a nonzero vector, or some of them are the forms of a complete dual pair
+abbrev pub VanishOrDual : Type 0
+VanishOrDual = (w : ℕ) (rows : List Vector) → Each (HasWidth w) rows → CommonZero w rows ⊎ DualOfRows w rows
+
+-- before any row the state is that of the unit forms
+abbrev pub StartIsState : Type 0
+StartIsState = (w : ℕ) → IsState w [] [] (unit_pairs w)
+
+-- a row that is 0 at all the vectors left changes nothing
+abbrev pub SkipKeeps : Type 0
+SkipKeeps = (w : ℕ) (h : Vector) (seen : List Vector) (chosen free : List Pair) → IsState w seen chosen free → Each (λ p. dot h p.vector ≡ pos 0) free → IsState w (h ∷ seen) chosen free
+
+-- a pivot step leads to the state with the row
+abbrev pub PivotKeeps : Type 0
+PivotKeeps = (w : ℕ) (h : Vector) (seen : List Vector) (chosen free chosen' free' : List Pair) → HasWidth w h → IsState w seen chosen free → IsPivotStep w h chosen free chosen' free' → IsState w (h ∷ seen) chosen' free'
+
+-- the rank of the rows is the number of those chosen, and with the vectors left it is the width
+abbrev pub RankIsChosen : Type 0
+RankIsChosen = (w : ℕ) (seen : List Vector) (chosen free : List Pair) → Each (HasWidth w) seen → IsState w seen chosen free → HasRank w (Contains seen) (length chosen) × (length chosen + length free ≡ w)
+
+-- the rows span the vectors at which all the vectors left are 0
+abbrev pub SpanIsWhereZero : Type 0
+SpanIsWhereZero = (w : ℕ) (seen : List Vector) (chosen free : List Pair) (x : Vector) → Each (HasWidth w) seen → HasWidth w x → IsState w seen chosen free → IsInSpan w seen x ↔ Each (λ p. dot x p.vector ≡ pos 0) free
+
+-- the columns of the vectors left are those that are no key column
+abbrev pub ColumnsAreOther : Type 0
+ColumnsAreOther = (w : ℕ) (seen : List Vector) (columns : List ℕ) (chosen free : List Pair) → Each (HasWidth w) seen → IsState w seen chosen free → AreColumnPairs w columns free → IsListOf ◌<◌ (IsOtherColumn w seen) columns
+
+-- and their primitive vectors are the equations
+abbrev pub LeftAreEquations : Type 0
+LeftAreEquations = (w : ℕ) (seen : List Vector) (columns : List ℕ) (chosen free : List Pair) (fs : List Vector) → Each (HasWidth w) seen → IsState w seen chosen free → AreColumnPairs w columns free → AllZip (λ (p : Pair) f. IsPrimitiveOf p.vector f) free fs → AreEquations w seen fs
+
+-- a list has its equations, and one list of them
+abbrev pub EquationsExist : Type 0
+EquationsExist = (w : ℕ) (G : List Vector) → Each (HasWidth w) G → (fs : List Vector) × AreEquations w G fs
+
+abbrev pub EquationsAreUnique : Type 0
+EquationsAreUnique = (w : ℕ) (G fs gs : List Vector) → Each (HasWidth w) G → AreEquations w G fs → AreEquations w G gs → fs ≡ gs
+
+-- ---- extreme rays
+-- each pointed cone has its list of extreme rays
+abbrev pub ExtremeRaysExist : Type 0
+ExtremeRaysExist = (w : ℕ) (rows : List Vector) → Each (HasWidth w) rows → IsPointed w rows → (rays : List Vector) × AreExtremeRays w rows rays
+
+-- the vectors of a complete dual pair, where primitive, are the extreme rays of its forms
+abbrev pub DualRaysStart : Type 0
+DualRaysStart = (w : ℕ) (ps : List Pair) → IsDualPair w ps → OnlyZero w ps → Each (λ p. IsPrimitive p.vector) ps → AreExtremeRays w (map (λ p. p.form) ps) (map (λ p. p.vector) ps)
+
+-- the rays of the rows and a step give the rays of the rows with one more
+abbrev pub RayStepKeeps : Type 0
+RayStepKeeps = (w : ℕ) (h : Vector) (rows rays cut : List Vector) → HasWidth w h → IsPointed w (h ∷ rows) → AreExtremeRays w rows rays → IsRayStep h rows rays cut → AreExtremeRays w (h ∷ rows) cut
+
+-- the rays kept and the sums of different adjacent pairs are all different
+abbrev pub NoRayTwice : Type 0
+NoRayTwice = (w : ℕ) (h : Vector) (rows rays kept : List Vector) (pairs : List RayPair) (new : List Vector) → Each (HasWidth w) rays → Each (Satisfies rows) rays → Pairwise ◌≢◌ kept → Each (Contains rays) kept → Each (IsAdjacentPair h rows rays) pairs → Pairwise ◌≢◌ pairs → AllZip (λ (q : RayPair) x. IsPrimitiveOf (meet h q.above q.below) x) pairs new → Pairwise ◌≢◌ (kept ++ new)
+
+-- the list of extreme rays has just the extreme generators of the whole vectors of the cone
+abbrev pub RaysAreExtreme : Type 0
+RaysAreExtreme = (w : ℕ) (rows rays : List Vector) (x : Vector) → IsPointed w rows → AreExtremeRays w rows rays → Contains rays x ↔ IsExtreme (IsInRows w rows) x
+
+-- ---- support forms
+-- the extreme rays of the facet rows are just the support forms
+abbrev pub RaysAreSupport : Type 0
+RaysAreSupport = (w : ℕ) (G rays : List Vector) (columns : List ℕ) (f : Vector) → Each (HasWidth w) G → IsListOf ◌<◌ (IsOtherColumn w G) columns → AreExtremeRays w (facet_rows w columns G) rays → Contains rays f ↔ IsSupportForm w G f
+
+-- the support forms and the equations of a list describe its cone
+abbrev pub SupportDescribes : Type 0
+SupportDescribes = (w : ℕ) (G : List Vector) → Each (HasWidth w) G → IsDescribedCone w G
+
+-- and none of the support forms can be left out
+abbrev pub SupportIsNeeded : Type 0
+SupportIsNeeded = (w : ℕ) (G support equations : List Vector) (f : Vector) → Each (HasWidth w) G → AreSupportForms w G support → AreEquations w G equations → Contains support f → IsNeeded w support equations f
+
+-- so the members of a system are the vectors of its lattice at which all its rows are at least 0
+abbrev pub MembersAreStage : Type 0
+MembersAreStage = (s : System) (equations rows : List Vector) → IsSystem s → AreEquationsOf s equations → AreRowsOf s rows → (x : Vector) → IsMember s x ↔ IsInStage (IsInLattice s equations) rows x
+
+-- ---- primitive vectors and floors
+-- integers have a greatest common divisor, which is a combination of them
+abbrev pub GcdExists : Type 0
+GcdExists = (xs : Vector) → (g : ℤ) × IsGcdOf g xs
+
+-- a vector is primitive just where some form has the value 1 at it
+abbrev pub PrimitiveHasUnit : Type 0
+PrimitiveHasUnit = (x : Vector) → IsPrimitive x ↔ HasUnitValue x
+
+-- a nonzero vector is a positive multiple of one primitive vector
+abbrev pub PrimitiveExists : Type 0
+PrimitiveExists = (x : Vector) → IsNonzero x → (y : Vector) × IsPrimitiveOf x y
+
+abbrev pub PrimitiveIsUnique : Type 0
+PrimitiveIsUnique = (x y z : Vector) → IsPrimitiveOf x y → IsPrimitiveOf x z → y ≡ z
+
+-- a quotient by a positive number has one floor
+abbrev pub FloorExists : Type 0
+FloorExists = (k c : ℤ) → pos 0 <ℤ k → (q : ℤ) × IsFloor k c q
+
+abbrev pub FloorIsUnique : Type 0
+FloorIsUnique = (k c q r : ℤ) → pos 0 <ℤ k → IsFloor k c q → IsFloor k c r → q ≡ r
+
+-- a vector of the span of a dual pair, less the vectors, each taken as often as the floor of its form's value by its divisor says, is in their box
+abbrev pub FloorsLeaveBox : Type 0
+FloorsLeaveBox = (w : ℕ) (ps : List Pair) (floors : List ℤ) (x : Vector) → IsDualPair w ps → HasWidth w x → IsInSpan w (map (λ p. p.vector) ps) x → AllZip (λ (p : Pair) q. IsFloor (divisor p) (dot p.form x) q) ps floors → IsInBox w (map (λ p. p.vector) ps) (minus x (combination w floors (map (λ p. p.vector) ps)))
