@@ -11,7 +11,7 @@ use Rattle.nz_spec.proofs.SumLaws.{dot-combination, combination-plus, combinatio
 use Rattle.nz_linear.specs.DualPairs.{IsSpace}
 use Rattle.nz_linear.proofs.Ring.{sums}
 use Rattle.nz_linear.proofs.Signs.{signed, mul_is_zero}
-use Rattle.nz_linear.proofs.Lists.{each_all}
+use Rattle.nz_linear.proofs.Lists.{each_all, each_map}
 use Rattle.nz_linear.proofs.VectorLaws.{length-plus, length-scaled}
 use Rattle.nz_linear.proofs.Cones.{above_zero}
 use Rattle.nz_linear.proofs.ConeMembers.{cone_member}
@@ -62,6 +62,10 @@ sum_within w (v ∷ vs) others (c ∷ cs) l i = span_plus w others (scaled c v) 
 pub span_within : (w : ℕ) (vs others : List Vector) (x : Vector) → Each (HasWidth w) others → Each (IsInSpan w others) vs → IsInSpan w vs x → IsInSpan w others x
 span_within w vs others x l i k =
     span_divide w others k.multiple x (λ e. let p = k.positive in omega (arith, sums)) (subst (IsInSpan w others) k.same (sum_within w vs others k.factors l i))
+
+-- a longer list, or the same in another order, has no smaller span
+pub span_of_members : (w : ℕ) (vs others : List Vector) (x : Vector) → Each (HasWidth w) others → Each (Contains others) vs → IsInSpan w vs x → IsInSpan w others x
+span_of_members w vs others x l c i = span_within w vs others x l (each_map (Contains others) (IsInSpan w others) vs (λ v k. span_member w others v l k) c) i
 
 pub zero_values : (f : Vector) (cs : List ℤ) (vs : List Vector) → Each (λ v. dot f v ≡ pos 0) vs → dot cs (map (λ v. dot f v) vs) ≡ pos 0
 zero_values f [] vs z = refl
