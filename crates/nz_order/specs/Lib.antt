@@ -1,0 +1,5 @@
+pub mod Boxes
+pub mod Picks
+pub mod Totals
+pub mod Reduction
+pub mod Lattices
