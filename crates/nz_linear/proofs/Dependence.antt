@@ -5,13 +5,14 @@ use Rattle.std.proofs.lemmas.List.{length-map}
 use Rattle.std.specs.List.{AllByRecursion as Each, Contains}
 use Rattle.nz_spec.specs.Vectors.{Vector, dot, plus, scaled}
 use Rattle.nz_spec.proofs.ListLaws.{Each-contains}
+use Rattle.nz_spec.proofs.EquationLaws.{dot_comm}
 use Rattle.nz_linear.specs.DualPairs.{Pair, pair_of, divisor, IsApart, HasWidths, IsDual, IsDualPair, AllVanish, OnlyZero, product, spread}
 use Rattle.nz_linear.specs.Elimination.{IsState, shifted, unit_pairs}
 use Rattle.nz_linear.proofs.Ring.{sums, ring_z}
 use Rattle.nz_linear.proofs.Signs.{mul_pos}
 use Rattle.nz_linear.proofs.Lists.{each_map, each_left, each_right, each_of_map, map_each}
 use Rattle.nz_spec.proofs.VectorLaws.{dot-zero, scaled-zero, scaled-plus, scaled-scaled}
-use Rattle.nz_linear.proofs.VectorLaws.{length-scaled, scaled-dot, dot_comm, cancel_scaled}
+use Rattle.nz_linear.proofs.VectorLaws.{length-scaled, scaled-dot, cancel_scaled}
 use Rattle.nz_linear.proofs.DualPairs.{product_positive, length-spread, dual_left, dual_right}
 use Rattle.nz_linear.proofs.Elimination.{spread_vanishes, pivot_keeps}
 use Rattle.nz_linear.proofs.Elimination.{pivot_keeps}

@@ -15,6 +15,7 @@ use Rattle.nz_spec.proofs.VectorLaws.{dot-scaled, dot-IsZero}
 use Rattle.nz_spec.proofs.IntLaws.{mul-nonneg}
 use Rattle.nz_spec.proofs.ListLaws.{Each-contains, Each-from_contains}
 use Rattle.nz_spec.proofs.ConstraintLaws.{nonneg_on_cone, zero_on_cone}
+use Rattle.nz_spec.proofs.EquationLaws.{dot_comm, AreEquations-unique}
 use Rattle.nz_linear.specs.DualPairs.{Pair, divisor, HasWidths, IsDual, product, spread}
 use Rattle.nz_linear.specs.Division.{IsPrimitiveOf}
 use Rattle.nz_linear.specs.Cones.{Satisfies}
@@ -22,11 +23,10 @@ use Rattle.nz_linear.specs.Facets.{IsValidForm, facet_rows}
 use Rattle.nz_linear.proofs.Ring.{sums}
 use Rattle.nz_linear.proofs.Signs.{mul_is_nonneg}
 use Rattle.nz_linear.proofs.Lists.{each_map, each_map2, each_right, zip_to_right}
-use Rattle.nz_linear.proofs.VectorLaws.{length-plus, length-scaled, dot-plus, scaled-dot, dot_comm}
+use Rattle.nz_linear.proofs.VectorLaws.{length-plus, length-scaled, dot-plus, scaled-dot}
 use Rattle.nz_linear.proofs.Division.{primitive_of}
 use Rattle.nz_linear.proofs.DualPairs.{dual_right, length-spread, vanishes_at_spread, values_at_spread, product_positive}
 use Rattle.nz_linear.proofs.Farkas.{described, generated}
-use Rattle.nz_linear.proofs.NormalForms.{equations_unique}
 use Rattle.nz_linear.proofs.KeyColumns.{SomeEchelon, echelon, IsLeft, all_left, columns_are_other, equations_of_left}
 use Rattle.nz_linear.proofs.Rank.{seen_vanish}
 use Rattle.nz_linear.proofs.RayExistence.{extreme_rays_exist}
@@ -116,7 +116,7 @@ described_back w G support equations x lG lx has eq s z =
     let a = echelon w G lG in
     let p = primitives a.free (dual_right a.chosen a.free a.state.pair.dual) in
     let others = columns_are_other w G a.columns a.chosen a.free lG a.state a.are_columns in
-    let same = equations_unique w G equations p.list lG eq (equations_of_left w G a.columns a.chosen a.free p.list lG a.state a.are_columns p.each) in
+    let same = AreEquations-unique w G equations p.list lG eq (equations_of_left w G a.columns a.chosen a.free p.list lG a.state a.are_columns p.each) in
     let zero = left_zero x a.free p.list p.each (subst (λ (fs : List Vector). Each (λ f. dot f x ≡ pos 0) fs) same z) in
     let rows = facet_rows w a.columns G in
     let e = extreme_rays_exist w rows (facet_rows_width w a.columns G lG) (facet_rows_pointed w G a.columns others lG) in

@@ -8,12 +8,13 @@ use Rattle.nz_spec.specs.Sums.{IsInCone}
 use Rattle.nz_spec.proofs.SumLaws.{IsInCone-zero, length-zero_vector, IsInCone-plus}
 use Rattle.nz_spec.proofs.ConstraintLaws.{nonneg_on_cone}
 use Rattle.nz_spec.proofs.IntLaws.{mul-nonneg}
+use Rattle.nz_spec.proofs.EquationLaws.{dot_comm}
 use Rattle.nz_linear.specs.Cones.{Satisfies, IsDoubleDescription, meet, IsCut}
 use Rattle.nz_spec.proofs.ListLaws.{Each-contains, Each-from_contains}
 use Rattle.nz_linear.proofs.Ring.{cross_gone, sums, ring_z, one-mul, neg-mul}
 use Rattle.nz_linear.proofs.Lists.{each_map, each_map2, each_map3, each_map4, each_append, each_left, each_right, each_of_map, map_each}
 use Rattle.nz_spec.proofs.VectorLaws.{dot-scaled, zero-dot}
-use Rattle.nz_linear.proofs.VectorLaws.{cons_same, length-plus, length-scaled, dot_comm, dot-plus, plus-dot, scaled-dot, same_values}
+use Rattle.nz_linear.proofs.VectorLaws.{cons_same, length-plus, length-scaled, dot-plus, plus-dot, scaled-dot, same_values}
 use Rattle.nz_linear.proofs.Cones.{cone_skip, cone_head, cone_scaled, cone_divide, worst}
 
 -- ---- one row more

@@ -8,6 +8,7 @@ use Rattle.nz_spec.specs.Order.{IsListOf}
 use Rattle.nz_spec.specs.Forms.{IsKeyColumn, IsOtherColumn, IsEquationAt, AreEquations}
 use Rattle.nz_spec.proofs.VectorLaws.{dot-zero, dot-scaled}
 use Rattle.nz_spec.proofs.ListLaws.{Each-from_contains, contains_here, contains_there, contains_cases, contains_none}
+use Rattle.nz_spec.proofs.EquationLaws.{dot_comm, zero_on_span}
 use Rattle.nz_linear.specs.DualPairs.{Pair, pair_of, divisor, IsApart, HasWidths, IsDual, product, spread}
 use Rattle.nz_linear.specs.Division.{IsPrimitiveOf}
 use Rattle.nz_linear.specs.Elimination.{IsState, unit_pairs}
@@ -15,14 +16,13 @@ use Rattle.nz_linear.specs.Echelon.{unit_at, IsColumnPair, AreColumnPairs}
 use Rattle.nz_linear.proofs.Ring.{sums}
 use Rattle.nz_linear.proofs.Signs.{mul_is_zero, mul_is_pos}
 use Rattle.nz_linear.proofs.Lists.{map_each, each_map, each_map2, each_right, zip_both, zip_right, zip_left, zip_change, zip_meet}
-use Rattle.nz_linear.proofs.VectorLaws.{length-plus, length-scaled, dot-plus, dot_comm, scaled-dot}
+use Rattle.nz_linear.proofs.VectorLaws.{length-plus, length-scaled, dot-plus, scaled-dot}
 use Rattle.nz_linear.proofs.Units.{entry-scaled, length-unit_at, dot-unit_at, unit_at-dot, entry-unit_own, entry-unit_other, leads_at, value_at_end}
 use Rattle.nz_linear.proofs.NormalForms.{column_cases}
 use Rattle.nz_linear.proofs.DualPairs.{dual_right, length-spread, value_step, values_at_spread, product_positive}
 use Rattle.nz_linear.proofs.DualCone.{swap, swapped_widths, swapped_dual}
 use Rattle.nz_linear.proofs.EliminationRun.{start_state, find_pivot, turned, clear, found_step}
 use Rattle.nz_linear.proofs.Elimination.{skip_keeps, pivot_keeps}
-use Rattle.nz_linear.proofs.Spans.{zero_on_span}
 use Rattle.nz_linear.proofs.Rank.{in_seen_span}
 use Rattle.nz_linear.proofs.Echelon.{start_columns, split_columns, pivot_columns}
 
@@ -85,7 +85,7 @@ left_is_other w seen c p l k = record {
   within = k.column.within;
   not_key = λ (y : IsKeyColumn w seen c). value_at_end p.vector y.0 c
       (record { nonzero = λ e. let o = own_entry w seen c p k in omega (arith, sums); after = k.column.after }) y.2
-      (zero_on_span w p.vector seen y.0 l (each_map (λ r. dot r p.vector ≡ pos 0) (λ r. dot p.vector r ≡ pos 0) seen (λ r e. dot_comm p.vector r ∙ e) k.vanish) y.1);
+      (zero_on_span p.vector w seen y.0 l (each_map (λ r. dot r p.vector ≡ pos 0) (λ r. dot p.vector r ≡ pos 0) seen (λ r e. dot_comm p.vector r ∙ e) k.vanish) y.1);
 }
 
 -- ---- all others are key columns
@@ -199,7 +199,7 @@ others_vanish w (c ∷ columns) (p ∷ ps) l d z = (
       both cs qs h.1 i.1 all k.1,
     )
 
-primitive_entry : (w : ℕ) (b f : Vector) (j : ℕ) (i : IsPrimitiveOf b f) → HasWidth w f → i.factor *ℤ entry f j ≡ entry b j
+pub primitive_entry : (w : ℕ) (b f : Vector) (j : ℕ) (i : IsPrimitiveOf b f) → HasWidth w f → i.factor *ℤ entry f j ≡ entry b j
 primitive_entry w b f j i l = sym (entry-scaled w i.factor f j l) ∙ ap (λ v. entry v j) i.same
 
 pub left_equation : (w : ℕ) (seen : List Vector) (columns : List ℕ) (c : ℕ) (p : Pair) (f : Vector) → IsLeft w seen c p → ((j : ℕ) → IsOtherColumn w seen j → j ≢ c → entry p.vector j ≡ pos 0) → IsPrimitiveOf p.vector f → IsEquationAt w seen c f

@@ -33,8 +33,8 @@ pub mod RayExistence
 pub mod SupportForms
 pub mod FacetRows
 pub mod DescribedCone
-pub mod Totals
 pub mod Pointed
 pub mod NeededForms
 pub mod Floors
+pub mod DualForms
 pub mod Recipes

@@ -1,11 +1,12 @@
 -- Each support form is needed: some vector meets all the others and the equations, and not it.
-use Rattle.std.proofs.Common.{◌≡◌, inl, inr, ℕ, List, pos, negsuc, ◌+ℤ◌, ◌*ℤ◌, ◌≤ℤ◌, ap, ap₂, ◌∙◌, arith}
+use Rattle.std.proofs.Common.{[], ◌∷◌, ◌≡◌, inl, inr, ℕ, List, pos, negsuc, ◌+ℤ◌, ◌*ℤ◌, ◌≤ℤ◌, ap, ap₂, ◌∙◌, arith}
 use Rattle.std.proofs.lemmas.Int.{ints}
 use Rattle.std.proofs.Math.IntN.{*ℤ-zero}
 use Rattle.std.specs.List.{AllByRecursion as Each, Contains}
-use Rattle.nz_spec.specs.Vectors.{Vector, dot, plus, scaled, HasWidth}
+use Rattle.nz_spec.specs.Vectors.{zero_vector, Vector, dot, plus, scaled, HasWidth}
 use Rattle.nz_spec.specs.Forms.{IsEquationAt, AreEquations, IsSupportForm, AreSupportForms, IsNeeded}
-use Rattle.nz_spec.proofs.VectorLaws.{dot-scaled}
+use Rattle.nz_spec.proofs.SumLaws.{length-zero_vector}
+use Rattle.nz_spec.proofs.VectorLaws.{dot-zero, dot-scaled}
 use Rattle.nz_spec.proofs.ListLaws.{Each-contains}
 use Rattle.nz_linear.proofs.Ring.{sums, mul-one, zero_sum}
 use Rattle.nz_linear.proofs.Signs.{mul_le, int_zero_or_not}
@@ -13,9 +14,34 @@ use Rattle.nz_linear.proofs.Lists.{each_map, zip_to_right}
 use Rattle.nz_linear.proofs.VectorLaws.{length-plus, length-scaled, dot-plus}
 use Rattle.nz_linear.proofs.ExtremeRays.{same_on_ray}
 use Rattle.nz_linear.proofs.Splitting.{enough_of}
-use Rattle.nz_linear.specs.Pointed.{total}
-use Rattle.nz_linear.proofs.Totals.{length-total, total_zero, total_nonneg, zero_of_total}
 use Rattle.nz_linear.proofs.SupportForms.{SomePositive, zero_or_positive, support_is_valid, on_ray_by_facet}
+
+-- the sum of a list
+abbrev total : ℕ → List Vector → Vector
+total w [] = zero_vector w
+total w (v ∷ vs) = plus v (total w vs)
+
+length-total : (w : ℕ) (vs : List Vector) → Each (HasWidth w) vs → HasWidth w (total w vs)
+length-total w [] l = length-zero_vector w
+length-total w (v ∷ vs) l = length-plus w v (total w vs) l.0 (length-total w vs l.1)
+
+total_zero : (w : ℕ) (f : Vector) (vs : List Vector) → Each (HasWidth w) vs → Each (λ v. dot f v ≡ pos 0) vs → dot f (total w vs) ≡ pos 0
+total_zero w f [] l z = dot-zero f w
+total_zero w f (v ∷ vs) l z = dot-plus w f v (total w vs) l.0 (length-total w vs l.1) ∙ omega (arith, sums, z.0, total_zero w f vs l.1 z.1)
+
+total_nonneg : (w : ℕ) (f : Vector) (vs : List Vector) → Each (HasWidth w) vs → Each (λ v. pos 0 ≤ℤ dot f v) vs → pos 0 ≤ℤ dot f (total w vs)
+total_nonneg w f [] l n = omega (arith, sums, dot-zero f w)
+total_nonneg w f (v ∷ vs) l n = omega (arith, sums, dot-plus w f v (total w vs) l.0 (length-total w vs l.1), n.0, total_nonneg w f vs l.1 n.1)
+
+-- a form that is at least 0 on the list and 0 at the sum is 0 on the list
+zero_of_total : (w : ℕ) (f : Vector) (vs : List Vector) → Each (HasWidth w) vs → Each (λ v. pos 0 ≤ℤ dot f v) vs → dot f (total w vs) ≡ pos 0 → Each (λ v. dot f v ≡ pos 0) vs
+zero_of_total w f [] l n e = tt
+zero_of_total w f (v ∷ vs) l n e =
+    let s = dot-plus w f v (total w vs) l.0 (length-total w vs l.1) in
+    let r = total_nonneg w f vs l.1 n.1 in
+    let h = n.0 in
+    let first : dot f v ≡ pos 0 = omega (arith, sums) in
+    (first, zero_of_total w f vs l.1 n.1 (omega (arith, sums)))
 
 pub support_needed : (w : ℕ) (G support equations : List Vector) (f : Vector) → Each (HasWidth w) G → AreSupportForms w G support → AreEquations w G equations → Contains support f → IsNeeded w support equations f
 support_needed w G support equations f lG are eq has = elim (zero_or_positive f G sf.at_least) [

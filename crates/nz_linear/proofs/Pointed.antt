@@ -1,19 +1,15 @@
--- A cone of rows has a line where they vanish together, and else no line, and their sum is a degree.
-use Rattle.std.proofs.Common.{◌≡◌, ℕ, inl, inr, List, [], ◌∷◌, pos, neg_ℤ, ◌≤ℤ◌, refl, sym, ◌∙◌, subst, arith}
+-- A cone of rows has a line where they vanish together, and else no line.
+use Rattle.std.proofs.Common.{◌≡◌, ℕ, List, [], ◌∷◌, pos, neg_ℤ, ◌≤ℤ◌, refl, sym, ◌∙◌, subst, arith}
 use Rattle.std.specs.List.{AllByRecursion as Each, Contains}
-use Rattle.nz_spec.specs.Vectors.{Vector, dot, opposite, HasWidth, IsZero, IsNonzero}
+use Rattle.nz_spec.specs.Vectors.{Vector, dot, opposite, IsZero}
 use Rattle.nz_spec.specs.Monoids.{IsLine, IsPositive}
 use Rattle.nz_spec.proofs.VectorLaws.{length-opposite, IsZero-zero_vector}
-use Rattle.nz_linear.specs.Cones.{Satisfies, IsInRows}
+use Rattle.nz_linear.specs.Cones.{IsInRows}
 use Rattle.nz_linear.specs.Extreme.{IsPointed}
 use Rattle.nz_linear.specs.DualPairs.{Pair}
 use Rattle.nz_linear.specs.Elimination.{CommonZero, DualOfRows}
-use Rattle.nz_linear.specs.Pointed.{total}
 use Rattle.nz_linear.proofs.Ring.{sums, mul-neg}
-use Rattle.nz_linear.proofs.Signs.{int_zero_or_not}
 use Rattle.nz_linear.proofs.Lists.{each_map, each_map2}
-use Rattle.nz_linear.proofs.VectorLaws.{dot_comm}
-use Rattle.nz_linear.proofs.Totals.{total_nonneg, zero_of_total}
 use Rattle.nz_spec.proofs.ListLaws.{Each-contains}
 
 dot-opposite : (f x : Vector) → dot f (opposite x) ≡ neg_ℤ (dot f x)
@@ -40,16 +36,3 @@ positive_of_pointed w rows Member pt inside v line =
     let b = inside (opposite v) line.backward in
     let zero : Each (λ r. dot r v ≡ pos 0) rows = each_map2 (λ r. pos 0 ≤ℤ dot r v) (λ r. pos 0 ≤ℤ dot r (opposite v)) (λ r. dot r v ≡ pos 0) rows (λ r p q. let e = dot-opposite r v in omega (arith, sums)) a.1 b.1 in
     line.nonzero (subst IsZero (sym (pt v a.0 zero)) (IsZero-zero_vector w))
-
--- ---- the degree by the rows
-pub degree_nonneg : (w : ℕ) (rows : List Vector) (x : Vector) → Each (HasWidth w) rows → Satisfies rows x → pos 0 ≤ℤ dot (total w rows) x
-degree_nonneg w rows x l s = rw (dot_comm (total w rows) x) (total_nonneg w x rows l (each_map (λ r. pos 0 ≤ℤ dot r x) (λ r. pos 0 ≤ℤ dot x r) rows (λ r h. rw (dot_comm x r) h) s))
-
--- it is 1 or more at each nonzero vector of the cone
-pub degree_positive : (w : ℕ) (rows : List Vector) (x : Vector) → Each (HasWidth w) rows → IsPointed w rows → HasWidth w x → Satisfies rows x → IsNonzero x → pos 1 ≤ℤ dot (total w rows) x
-degree_positive w rows x l pt lx s n = elim (int_zero_or_not (dot (total w rows) x)) [
-  | inr d ↦ (let p = degree_nonneg w rows x l s in omega (arith, sums))
-  | inl e ↦ absurd (n (
-      let z = zero_of_total w x rows l (each_map (λ r. pos 0 ≤ℤ dot r x) (λ r. pos 0 ≤ℤ dot x r) rows (λ r h. rw (dot_comm x r) h) s) (dot_comm x (total w rows) ∙ e) in
-      subst IsZero (sym (pt x lx (each_map (λ r. dot x r ≡ pos 0) (λ r. dot r x ≡ pos 0) rows (λ r h. dot_comm r x ∙ h) z))) (IsZero-zero_vector w)))
-]

@@ -10,6 +10,7 @@ use Rattle.nz_spec.proofs.IntLaws.{mul-add, mul_assoc}
 use Rattle.nz_spec.proofs.VectorLaws.{dot-scaled, dot-zero}
 use Rattle.nz_spec.proofs.SumLaws.{length-zero_vector}
 use Rattle.std.proofs.lemmas.List.{length-map}
+use Rattle.nz_spec.proofs.EquationLaws.{dot_comm, zero_on_span, zero_outside_keys}
 use Rattle.nz_linear.proofs.Units.{entry_sum}
 use Rattle.nz_spec.proofs.ListLaws.{Each-contains, Each-from_contains, contains_here, contains_there, contains_cases}
 use Rattle.nz_spec.proofs.LinearLaws.{HasRank-unique}
@@ -20,13 +21,12 @@ use Rattle.nz_linear.specs.Facets.{IsValidForm, IsExtremeForm}
 use Rattle.nz_linear.proofs.Ring.{zero_sum, cross_gone, sums, ring_z, mul-one, neg-mul}
 use Rattle.nz_linear.proofs.Signs.{mul_le, cancel_mul, int_zero_or_not}
 use Rattle.nz_linear.proofs.Lists.{each_map, each_map2, each_map3, each_append, each_right}
-use Rattle.nz_linear.proofs.VectorLaws.{length-plus, length-scaled, dot-plus, plus-dot, scaled-dot, dot_comm, scaled_is_zero, same_values}
+use Rattle.nz_linear.proofs.VectorLaws.{length-plus, length-scaled, dot-plus, plus-dot, scaled-dot, scaled_is_zero, same_values}
 use Rattle.nz_linear.proofs.Division.{primitive_nonzero}
 use Rattle.nz_linear.proofs.DualPairs.{dual_right}
 use Rattle.nz_linear.proofs.EliminationRun.{run}
-use Rattle.nz_linear.proofs.Spans.{zero_on_span}
 use Rattle.nz_linear.proofs.Rank.{chosen_rows, chosen_members, chosen_independent, rank_of_dual, rank_of_state, rank_and_left, independent_more, full_independent_span}
-use Rattle.nz_linear.proofs.NormalForms.{zero_form, difference, difference_value, normal_along}
+use Rattle.nz_linear.proofs.NormalForms.{difference, difference_value, normal_along}
 use Rattle.nz_linear.proofs.KeyColumns.{echelon, IsLeft, all_left, columns_are_other}
 use Rattle.nz_linear.proofs.Splitting.{enough_of}
 
@@ -161,7 +161,7 @@ columns_zero w G x (c ∷ columns) (p ∷ free) lx k v = (sym (k.0.column.unit x
 
 pub support_of_extreme : (w : ℕ) (G : List Vector) (f : Vector) → Each (HasWidth w) G → IsValidForm w G f → IsPrimitive f → IsExtremeForm w G f → IsSupportForm w G f
 support_of_extreme w G f lG v p e =
-    let not_all : ¬ Each (λ g. dot f g ≡ pos 0) G = λ (z : Each (λ g. dot f g ≡ pos 0) G). primitive_nonzero f p (zero_form w G f v.width lG z v.zero_at) in
+    let not_all : ¬ Each (λ g. dot f g ≡ pos 0) G = λ (z : Each (λ g. dot f g ≡ pos 0) G). primitive_nonzero f p (zero_outside_keys w G lG f v.width z v.zero_at) in
     record {
       width = v.width;
       primitive = p;
@@ -247,7 +247,7 @@ on_ray_by_facet w G f y lG s v z = elim (zero_or_positive f G s.at_least) [
         let same_on : Each (λ x. a *ℤ dot y x ≡ b *ℤ dot f x) G = Each-from_contains (λ x. a *ℤ dot y x ≡ b *ℤ dot f x) G
         (λ x k.
         let i = full_independent_span w (Contains G) (suc (length c.vectors)) (g ∷ c.vectors) x (λ u m. Each-contains (HasWidth w) G u lG m) c.rank (t.has, c.of_list) free refl k in
-        omega (arith, sums, zero_on_span w d (g ∷ c.vectors) x (lg, lv) zero_on i, value x, neg-mul b (dot f x))) in
+        omega (arith, sums, zero_on_span d w (g ∷ c.vectors) x (lg, lv) zero_on i, value x, neg-mul b (dot f x))) in
         record {
           multiple = a;
           positive = t.positive;

@@ -7,6 +7,7 @@ use Rattle.nz_spec.specs.Vectors.{Vector, dot, plus, scaled, zero_vector}
 use Rattle.nz_spec.proofs.VectorLaws.{dot-scaled, dot-zero, plus_comm, plus_assoc, scaled-scaled, scaled-zero}
 use Rattle.nz_spec.proofs.VectorLaws as spec
 use Rattle.nz_spec.proofs.SumLaws.{length-zero_vector}
+use Rattle.nz_spec.proofs.EquationLaws.{dot_comm}
 use Rattle.nz_linear.proofs.Ring.{sums, one-mul}
 use Rattle.nz_linear.proofs.Signs.{cancel_mul}
 
@@ -21,12 +22,6 @@ pub length-scaled : (w : ℕ) (k : ℤ) (x : Vector) → length x ≡ w → leng
 length-scaled w k x h = spec.length-scaled k x ∙ h
 
 -- ---- the value is linear in both arguments
-pub dot_comm : (f x : Vector) → dot f x ≡ dot x f
-dot_comm [] [] = refl
-dot_comm [] (b ∷ x) = refl
-dot_comm (a ∷ f) [] = refl
-dot_comm (a ∷ f) (b ∷ x) = omega (arith, sums, *ℤ_comm a b, dot_comm f x)
-
 pub dot-plus : (w : ℕ) (f x y : Vector) → length x ≡ w → length y ≡ w → dot f (plus x y) ≡ dot f x +ℤ dot f y
 dot-plus w f x y h k = spec.dot-plus f x y (h ∙ sym k)
 

@@ -62,12 +62,9 @@ ColumnsAreOther = (w : ℕ) (seen : List Vector) (columns : List ℕ) (chosen fr
 abbrev pub LeftAreEquations : Type 0
 LeftAreEquations = (w : ℕ) (seen : List Vector) (columns : List ℕ) (chosen free : List Pair) (fs : List Vector) → Each (HasWidth w) seen → IsState w seen chosen free → AreColumnPairs w columns free → AllZip (λ (p : Pair) f. IsPrimitiveOf p.vector f) free fs → AreEquations w seen fs
 
--- a list has its equations, and one list of them
+-- each list has equations
 abbrev pub EquationsExist : Type 0
 EquationsExist = (w : ℕ) (G : List Vector) → Each (HasWidth w) G → (fs : List Vector) × AreEquations w G fs
-
-abbrev pub EquationsAreUnique : Type 0
-EquationsAreUnique = (w : ℕ) (G fs gs : List Vector) → Each (HasWidth w) G → AreEquations w G fs → AreEquations w G gs → fs ≡ gs
 
 -- ---- extreme rays
 -- each pointed cone has its list of extreme rays

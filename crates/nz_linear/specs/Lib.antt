@@ -7,5 +7,4 @@ pub mod DoubleDescription
 pub mod RayStep
 pub mod Echelon
 pub mod Facets
-pub mod Pointed
 pub mod Laws

@@ -5,7 +5,7 @@
 //! Start reading at `specs/Laws.antt`; `docs/LEMMAS.md` lists the lemmas by what they are for.
 #![tactic(auto)]
 
-ghost use Rattle.nz_linear.specs.Laws.{RaysExist, RaysGenerate, VanishOrDual, StartIsState, SkipKeeps, PivotKeeps, RankIsChosen, SpanIsWhereZero, ColumnsAreOther, LeftAreEquations, EquationsExist, EquationsAreUnique, ExtremeRaysExist, DualRaysStart, RayStepKeeps, NoRayTwice, RaysAreExtreme, RaysAreSupport, SupportDescribes, SupportIsNeeded, MembersAreStage, GcdExists, PrimitiveHasUnit, PrimitiveExists, PrimitiveIsUnique, FloorExists, FloorIsUnique, FloorsLeaveBox};
+ghost use Rattle.nz_linear.specs.Laws.{RaysExist, RaysGenerate, VanishOrDual, StartIsState, SkipKeeps, PivotKeeps, RankIsChosen, SpanIsWhereZero, ColumnsAreOther, LeftAreEquations, EquationsExist, ExtremeRaysExist, DualRaysStart, RayStepKeeps, NoRayTwice, RaysAreExtreme, RaysAreSupport, SupportDescribes, SupportIsNeeded, MembersAreStage, GcdExists, PrimitiveHasUnit, PrimitiveExists, PrimitiveIsUnique, FloorExists, FloorIsUnique, FloorsLeaveBox};
 
 /// The theorem of Farkas: a cone by rows is a cone by rays, and the other way round.
 pub fn rays_generate()
@@ -23,12 +23,11 @@ pub fn elimination_keeps_a_dual_pair()
     ensures span { SpanIsWhereZero }
 {}
 
-/// What elimination leaves are the equations of the rows, which are unique.
+/// What elimination leaves are the equations of the rows.
 pub fn equations_are_what_is_left()
     ensures columns { ColumnsAreOther }
     ensures equations { LeftAreEquations }
     ensures exist { EquationsExist }
-    ensures unique { EquationsAreUnique }
 {}
 
 /// Double description: the extreme rays of a pointed cone, row by row.

@@ -1,4 +1,3 @@
-use Rattle.nz_linear.proofs.NormalForms.{equations_unique}
 use Rattle.nz_linear.proofs.KeyColumns.{columns_are_other, equations_of_left}
 use Rattle.nz_linear.proofs.DescribedCone.{equations_exist}
 use Rattle.nz_linear.proofs.equations_are_what_is_left.Goals as goal
@@ -11,6 +10,3 @@ returns-clause-equations c = equations_of_left
 
 pub returns-clause-exist : goal.returns-clause-exist
 returns-clause-exist c = λ w G l. let e = equations_exist w G l in (e.equations, e.are)
-
-pub returns-clause-unique : goal.returns-clause-unique
-returns-clause-unique c = equations_unique
