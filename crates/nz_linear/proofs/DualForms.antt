@@ -1,7 +1,7 @@
 -- The dual forms of independent vectors: unique, and given by the chosen rows of elimination.
 use Rattle.std.proofs.Common.{◌≡◌, ◌≢◌, inl, inr, ℕ, List, [], ◌∷◌, ◌++◌, length, pos, ◌*ℤ◌, ◌<ℤ◌, refl, sym, ap, ◌∙◌, subst}
 use Rattle.std.proofs.Math.IntN.{*ℤ_comm}
-use Rattle.std.proofs.lemmas.List.{append_assoc}
+use Rattle.std.proofs.lemmas.List.{append_assoc, map-append}
 use Rattle.std.specs.List.{AllByRecursion as Each, AllZip, Contains}
 use Rattle.nz_spec.specs.Vectors.{Vector, dot, entry, HasWidth}
 use Rattle.nz_spec.specs.Forms.{IsKeyColumn, IsOtherColumn, IsDualForm, AreDualForms}
@@ -93,10 +93,6 @@ in_place w before (p ∷ ps) free h d b =
       subst (λ (all : List Pair). Each (InPlace w all free) ps) (append_assoc before (p ∷ []) ps) rest,
     )
 
-rows_append : (xs ys : List Pair) → chosen_rows (xs ++ ys) ≡ chosen_rows xs ++ chosen_rows ys
-rows_append [] ys = λ i. chosen_rows ys
-rows_append (x ∷ xs) ys = ap (λ t. x.form ∷ t) (rows_append xs ys)
-
 -- the form of a chosen pair and the primitive vector of it
 form_in_place : (w : ℕ) (seen : List Vector) (columns : List ℕ) (chosen free : List Pair) (p : Pair) (f : Vector) → Each (HasWidth w) seen → IsState w seen chosen free → AreColumnPairs w columns free → InPlace w chosen free p → IsPrimitiveOf p.vector f → IsDualForm w (chosen_rows chosen) p.form f
 form_in_place w seen columns chosen free p f l s a k i =
@@ -110,14 +106,14 @@ form_in_place w seen columns chosen free p f l s a k i =
     record {
       earlier = chosen_rows k.earlier;
       later = chosen_rows k.later;
-      whole = ap (λ (ps : List Pair). chosen_rows ps) k.whole ∙ rows_append k.earlier (p ∷ k.later);
+      whole = ap (λ (ps : List Pair). chosen_rows ps) k.whole ∙ map-append (λ (q : Pair). q.form) k.earlier (p ∷ k.later);
       width = lf;
       primitive = i.primitive;
       zero_at = λ j o.
           let o' : IsOtherColumn w seen j = other_by_span w rows seen j (λ x m. span_within w seen rows x lr (each_map (Contains seen) (IsInSpan w rows) seen (λ v c. in_chosen_span w seen chosen free v (Each-contains (HasWidth w) seen v l c) s (seen_vanish w seen chosen free v s c)) (Each-from_contains (Contains seen) seen (λ v c. c))) m) o in
           mul_is_zero i.factor (entry f j) i.positive (primitive_entry w p.vector f j i lf ∙ Each-contains (λ c. entry p.vector c ≡ pos 0) columns j zero (list.each j o'));
       positive = mul_is_pos i.factor (dot f p.form) i.positive (rw (value p.form) k.positive);
-      zero_on = subst (Each (λ g. dot f g ≡ pos 0)) (rows_append k.earlier k.later)
+      zero_on = subst (Each (λ g. dot f g ≡ pos 0)) (map-append (λ (q : Pair). q.form) k.earlier k.later)
           (each_of_map (λ (q : Pair). q.form) (λ g. dot f g ≡ pos 0) (k.earlier ++ k.later) (each_map (λ (q : Pair). dot q.form p.vector ≡ pos 0) (λ (q : Pair). dot f q.form ≡ pos 0) (k.earlier ++ k.later) (λ q e. mul_is_zero i.factor (dot f q.form) i.positive (value q.form ∙ e)) k.others));
     }
 

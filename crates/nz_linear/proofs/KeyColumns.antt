@@ -141,10 +141,16 @@ key_of_missing w seen columns chosen free j l s a lj missing =
     earlier_cases k m [] [] h z = tt
     earlier_cases k m [] (p ∷ ps) h z = absurd z
     earlier_cases k m (c ∷ cs) [] h z = absurd z
-    earlier_cases k m (c ∷ cs) (p ∷ ps) h z = ((z.0, elim (column_cases k c) [
-      | inl e ↦ inl (dot-unit_at w j p.vector h.0.vector_width ∙ z.0.after j (omega arith))
-      | inr n ↦ inr n
-    ]), earlier_cases k m cs ps h.1 z.1)
+    earlier_cases k m (c ∷ cs) (p ∷ ps) h z = (
+      (
+        z.0,
+        elim (column_cases k c) [
+          | inl e ↦ inl (dot-unit_at w j p.vector h.0.vector_width ∙ z.0.after j (omega arith))
+          | inr n ↦ inr n
+        ],
+      ),
+      earlier_cases k m cs ps h.1 z.1,
+    )
 
 listed_or_not : (columns : List ℕ) (j : ℕ) → Contains columns j ⊎ ¬ Contains columns j
 listed_or_not [] j = inr (contains_none j)

@@ -5,8 +5,8 @@ use Rattle.nz_spec.specs.Vectors.{Vector, dot, minus, combination, HasWidth, IsN
 use Rattle.nz_spec.specs.Sums.{IsInCone, IsInSpan, IsInBox, HasRank}
 use Rattle.nz_spec.specs.Order.{Pairwise, IsListOf}
 use Rattle.nz_spec.specs.Boxes.{IsFloor}
-use Rattle.nz_spec.specs.Monoids.{IsExtreme}
-use Rattle.nz_spec.specs.Forms.{IsOtherColumn, AreEquations, IsSupportForm, AreSupportForms, IsNeeded}
+use Rattle.nz_spec.specs.Monoids.{IsLine, IsPositive, IsExtreme}
+use Rattle.nz_spec.specs.Forms.{IsOtherColumn, AreEquations, IsDualForm, AreDualForms, IsSupportForm, AreSupportForms, IsNeeded}
 use Rattle.nz_spec.specs.Systems.{System, IsSystem, IsMember}
 use Rattle.nz_spec.specs.Constraints.{AreEquationsOf, AreRowsOf}
 use Rattle.nz_spec.specs.Stages.{IsInLattice, IsInStage}
@@ -65,6 +65,27 @@ LeftAreEquations = (w : ℕ) (seen : List Vector) (columns : List ℕ) (chosen f
 -- each list has equations
 abbrev pub EquationsExist : Type 0
 EquationsExist = (w : ℕ) (G : List Vector) → Each (HasWidth w) G → (fs : List Vector) × AreEquations w G fs
+
+-- the primitive vectors of the chosen pairs are the dual forms of the chosen rows
+abbrev pub ChosenAreDualForms : Type 0
+ChosenAreDualForms = (w : ℕ) (seen : List Vector) (columns : List ℕ) (chosen free : List Pair) (fs : List Vector) → Each (HasWidth w) seen → IsState w seen chosen free → AreColumnPairs w columns free → AllZip (λ (p : Pair) f. IsPrimitiveOf p.vector f) chosen fs → AreDualForms w (map (λ p. p.form) chosen) fs
+
+-- a vector of a list has at most one dual form
+abbrev pub DualFormIsUnique : Type 0
+DualFormIsUnique = (w : ℕ) (vectors : List Vector) (v f g : Vector) → Each (HasWidth w) vectors → IsDualForm w vectors v f → IsDualForm w vectors v g → f ≡ g
+
+-- ---- lines
+-- a nonzero vector at which all rows are 0 is a line of their cone
+abbrev pub CommonZeroIsLine : Type 0
+CommonZeroIsLine = (w : ℕ) (rows : List Vector) (z : CommonZero w rows) → IsLine (IsInRows w rows) z.point
+
+-- rows among which are the forms of a complete dual pair are all 0 only at 0
+abbrev pub DualIsPointed : Type 0
+DualIsPointed = (w : ℕ) (rows : List Vector) → DualOfRows w rows → IsPointed w rows
+
+-- and then there is no line
+abbrev pub PointedIsPositive : Type 0
+PointedIsPositive = (w : ℕ) (rows : List Vector) → IsPointed w rows → IsPositive (IsInRows w rows)
 
 -- ---- extreme rays
 -- each pointed cone has its list of extreme rays

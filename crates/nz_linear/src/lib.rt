@@ -5,7 +5,7 @@
 //! Start reading at `specs/Laws.antt`; `docs/LEMMAS.md` lists the lemmas by what they are for.
 #![tactic(auto)]
 
-ghost use Rattle.nz_linear.specs.Laws.{RaysExist, RaysGenerate, VanishOrDual, StartIsState, SkipKeeps, PivotKeeps, RankIsChosen, SpanIsWhereZero, ColumnsAreOther, LeftAreEquations, EquationsExist, ExtremeRaysExist, DualRaysStart, RayStepKeeps, NoRayTwice, RaysAreExtreme, RaysAreSupport, SupportDescribes, SupportIsNeeded, MembersAreStage, GcdExists, PrimitiveHasUnit, PrimitiveExists, PrimitiveIsUnique, FloorExists, FloorIsUnique, FloorsLeaveBox};
+ghost use Rattle.nz_linear.specs.Laws.{RaysExist, RaysGenerate, VanishOrDual, StartIsState, SkipKeeps, PivotKeeps, RankIsChosen, SpanIsWhereZero, ColumnsAreOther, LeftAreEquations, EquationsExist, ChosenAreDualForms, DualFormIsUnique, CommonZeroIsLine, DualIsPointed, PointedIsPositive, ExtremeRaysExist, DualRaysStart, RayStepKeeps, NoRayTwice, RaysAreExtreme, RaysAreSupport, SupportDescribes, SupportIsNeeded, MembersAreStage, GcdExists, PrimitiveHasUnit, PrimitiveExists, PrimitiveIsUnique, FloorExists, FloorIsUnique, FloorsLeaveBox};
 
 /// The theorem of Farkas: a cone by rows is a cone by rays, and the other way round.
 pub fn rays_generate()
@@ -23,11 +23,20 @@ pub fn elimination_keeps_a_dual_pair()
     ensures span { SpanIsWhereZero }
 {}
 
-/// What elimination leaves are the equations of the rows.
-pub fn equations_are_what_is_left()
+/// What elimination leaves are the equations of the rows, and what it has chosen are their dual forms.
+pub fn normal_forms_come_from_elimination()
     ensures columns { ColumnsAreOther }
     ensures equations { LeftAreEquations }
     ensures exist { EquationsExist }
+    ensures dual { ChosenAreDualForms }
+    ensures unique { DualFormIsUnique }
+{}
+
+/// Rows vanish together at a line of their cone, or their cone has no line.
+pub fn common_zeros_are_lines()
+    ensures line { CommonZeroIsLine }
+    ensures pointed { DualIsPointed }
+    ensures positive { PointedIsPositive }
 {}
 
 /// Double description: the extreme rays of a pointed cone, row by row.
