@@ -45,6 +45,7 @@ primitives (p ∷ free) d =
     let f = primitive_of p.vector n in
     record { list = f.y ∷ t.list; each = (f.is, t.each) }
 
+-- a list of the equations of G
 pub record SomeEquations (w : ℕ) (G : List Vector) : Type 0 where
   pub equations : List Vector
   pub are : AreEquations w G equations

@@ -89,6 +89,7 @@ euclid (suc n) a (suc b) h =
 multiple_of_multiple : (m k x : ℤ) → IsMultipleOf m k → IsMultipleOf k x → IsMultipleOf m x
 multiple_of_multiple m k x h i = (i.0 *ℤ h.0, i.1 ∙ ap (λ t. i.0 *ℤ t) h.1 ∙ sym (mul_assoc i.0 h.0 m))
 
+-- a greatest common divisor
 pub record SomeGcd (xs : Vector) : Type 0 where
   pub g : ℤ
   pub is : IsGcdOf g xs
@@ -145,6 +146,7 @@ primitive_nonzero x p z =
     let u = unit_value x p in
     let e : pos 1 ≡ pos 0 = sym u.one ∙ dot-IsZero u.form x z in omega (arith, sums)
 
+-- a primitive vector along x
 pub record SomePrimitive (x : Vector) : Type 0 where
   pub y : Vector
   pub is : IsPrimitiveOf x y

@@ -91,6 +91,7 @@ clear_is w h u r lu k = record {
   same = one-scaled _;
 }
 
+-- a state after these rows
 pub record SomeState (w : ℕ) (rows : List Vector) : Type 0 where
   pub chosen : List Pair
   pub free : List Pair

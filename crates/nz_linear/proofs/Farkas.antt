@@ -144,6 +144,7 @@ all_met w h Wanted (n ∷ ns) rays ln l s =
     let j = joined w Wanted _ _ (met w h Wanted n rays ln.0 l s.0) (all_met w h Wanted ns rays ln.1 l s.1) in
     record { rays = j.rays; widths = j.widths; wanted = j.wanted; gives = λ y ly k. let g = j.gives y ly k in (g.0, g.1) }
 
+-- a cut, each ray of which is as wanted
 pub record FullCut (w : ℕ) (h : Vector) (Wanted : Vector → Type 0) (rows rays : List Vector) : Type 0 where
   pub cut : List Vector
   pub is : IsCut w h rows rays cut
@@ -170,6 +171,7 @@ full_cut w h Wanted rows rays l s k m =
       wanted = each_map W Wanted j.rays (λ r x. x.1) j.wanted;
     }
 
+-- a cut
 pub record SomeCut (w : ℕ) (h : Vector) (rows rays : List Vector) : Type 0 where
   pub cut : List Vector
   pub is : IsCut w h rows rays cut

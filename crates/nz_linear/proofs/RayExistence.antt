@@ -162,6 +162,7 @@ choose w rows (g ∷ list) l s p d =
       | inr z ↦ record { extreme = t.extreme; widths = t.widths; sound = t.sound; primitive = t.primitive; are_extreme = t.are_extreme; each = (inr z, t.each) }
     ]
 
+-- a list of the extreme rays
 pub record SomeExtremeRays (w : ℕ) (rows : List Vector) : Type 0 where
   pub rays : List Vector
   pub are : AreExtremeRays w rows rays

@@ -134,17 +134,19 @@ GcdExists = (xs : Vector) → (g : ℤ) × IsGcdOf g xs
 abbrev pub PrimitiveHasUnit : Type 0
 PrimitiveHasUnit = (x : Vector) → IsPrimitive x ↔ HasUnitValue x
 
--- a nonzero vector is a positive multiple of one primitive vector
+-- a nonzero vector is a positive multiple of a primitive vector
 abbrev pub PrimitiveExists : Type 0
 PrimitiveExists = (x : Vector) → IsNonzero x → (y : Vector) × IsPrimitiveOf x y
 
+-- and of no other
 abbrev pub PrimitiveIsUnique : Type 0
 PrimitiveIsUnique = (x y z : Vector) → IsPrimitiveOf x y → IsPrimitiveOf x z → y ≡ z
 
--- a quotient by a positive number has one floor
+-- a quotient by a positive number has a floor
 abbrev pub FloorExists : Type 0
 FloorExists = (k c : ℤ) → pos 0 <ℤ k → (q : ℤ) × IsFloor k c q
 
+-- and no other
 abbrev pub FloorIsUnique : Type 0
 FloorIsUnique = (k c q r : ℤ) → pos 0 <ℤ k → IsFloor k c q → IsFloor k c r → q ≡ r
 
