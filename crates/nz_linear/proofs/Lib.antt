@@ -37,4 +37,6 @@ pub mod Pointed
 pub mod NeededForms
 pub mod Floors
 pub mod DualForms
+pub mod Coordinates
+pub mod GroupCuts
 pub mod Recipes

@@ -1,7 +1,7 @@
 -- Each pointed cone of rows has its list of extreme rays.
 use Rattle.std.proofs.Common.{◌≡◌, ◌≢◌, ◌⊎◌, inl, inr, ℕ, List, [], ◌∷◌, ℤ, pos, ◌+ℤ◌, ◌≤ℤ◌, ◌<ℤ◌, sym, ap, ◌∙◌, subst, arith}
 use Rattle.std.specs.List.{AllByRecursion as Each, Contains}
-use Rattle.nz_spec.specs.Vectors.{Vector, dot, scaled, zero_vector, combination, HasWidth, IsPrimitive}
+use Rattle.nz_spec.specs.Vectors.{plus, Vector, dot, scaled, zero_vector, combination, HasWidth, IsPrimitive}
 use Rattle.nz_spec.specs.Sums.{IsInCone}
 use Rattle.nz_spec.proofs.VectorLaws.{zero_or_not, zero_vector_of, add-scaled}
 use Rattle.nz_spec.proofs.SumLaws.{IsInCone-zero}
@@ -11,7 +11,7 @@ use Rattle.nz_spec.proofs.EquationLaws.{dot_comm}
 use Rattle.nz_spec.proofs.UniqueLaws.{same_or_not}
 use Rattle.nz_linear.specs.Cones.{Satisfies}
 use Rattle.nz_linear.specs.Extreme.{VanishesWith, IsPointed, Splits}
-use Rattle.nz_linear.specs.DoubleDescription.{IsExtremeByZeros, AreAdjacent}
+use Rattle.nz_linear.specs.DoubleDescription.{IsOnRay, IsExtremeByZeros, AreAdjacent}
 use Rattle.nz_linear.specs.RayStep.{AreExtremeRays}
 use Rattle.nz_linear.proofs.Ring.{sums}
 use Rattle.nz_linear.proofs.Signs.{sign_cases, int_zero_or_not}
@@ -103,6 +103,9 @@ other_or_none w rows g (r ∷ list) lg l = elim (other_or_none w rows g list lg 
   ]
 ]
 
+ray_of_sum : (y g c : Vector) (m j k : ℤ) → pos 0 <ℤ m → pos 0 ≤ℤ j → pos 0 ≤ℤ k → c ≡ scaled m y → c ≡ plus (scaled j g) (scaled k g) → IsOnRay g y
+ray_of_sum y g c m j k p nj nk e f = record { multiple = m; positive = p; factor = j +ℤ k; nonneg = omega (arith, sums); same = sym e ∙ f ∙ sym (add-scaled j k g) }
+
 -- a vector at whose zeros no other of a list that generates vanishes is extreme
 extreme_of_alone : (w : ℕ) (rows list : List Vector) (g : Vector) → Each (HasWidth w) rows → HasWidth w g → Each (HasWidth w) list → Each (Satisfies rows) list → ((x : Vector) → HasWidth w x → Satisfies rows x → IsInCone w list x)
     → Each (λ r. VanishesWith rows g r → r ≡ g) list → IsExtremeByZeros w rows g
@@ -114,13 +117,7 @@ extreme_of_alone w rows list g lr lg l s gen alone y ly sy v =
     let zc : Each (λ a. dot a g ≡ pos 0 → dot a g ≡ pos 0 → dot a c ≡ pos 0) rows = each_map2 (λ a. dot a g ≡ pos 0 → dot a y ≡ pos 0) (λ a. dot a y ≡ pos 0 → dot a c ≡ pos 0) (λ a. dot a g ≡ pos 0 → dot a g ≡ pos 0 → dot a c ≡ pos 0) rows
     (λ a f h e u. h (f e)) v (vanishes_multiple rows i.multiple y c (sym i.same) sy) in
     let b = between w rows g g i.factors list lg lg lr i.each l s adjacent zc in
-    record {
-      multiple = i.multiple;
-      positive = above_zero i.multiple i.positive;
-      factor = b.at_p +ℤ b.at_n;
-      nonneg = (let p = b.nonneg_p in let n = b.nonneg_n in omega (arith, sums));
-      same = sym i.same ∙ b.same ∙ sym (add-scaled b.at_p b.at_n g);
-    }
+    ray_of_sum y g c i.multiple b.at_p b.at_n (above_zero i.multiple i.positive) b.nonneg_p b.nonneg_n i.same b.same
 
 extreme_or_split : (w : ℕ) (rows list : List Vector) (g : Vector) → IsPointed w rows → Each (HasWidth w) rows → Each (HasWidth w) list → Each (Satisfies rows) list → Each IsPrimitive list → ((x : Vector) → HasWidth w x → Satisfies rows x → IsInCone w list x)
     → HasWidth w g → Satisfies rows g → IsPrimitive g → IsExtremeByZeros w rows g ⊎ Splits w rows g

@@ -1,11 +1,11 @@
 -- The theorems on rows, rays, elimination and forms that the engines rest on.
-use Rattle.std.specs.Prelude.{◌≡◌, ◌≢◌, ◌↔◌, ◌⊎◌, ℕ, ◌+◌, ◌<◌, List, [], ◌∷◌, ◌++◌, length, map, ℤ, pos, ◌<ℤ◌, Contains}
+use Rattle.std.specs.Prelude.{◌≡◌, ◌≢◌, ◌↔◌, ◌⊎◌, ℕ, ◌+◌, ◌<◌, List, [], ◌∷◌, ◌++◌, length, map, ℤ, pos, ◌*ℤ◌, ◌<ℤ◌, Contains}
 use Rattle.std.specs.List.{AllByRecursion as Each, AllZip}
-use Rattle.nz_spec.specs.Vectors.{Vector, dot, minus, combination, HasWidth, IsNonzero, IsPrimitive}
-use Rattle.nz_spec.specs.Sums.{IsInCone, IsInSpan, IsInBox, HasRank}
+use Rattle.nz_spec.specs.Vectors.{Vector, dot, minus, combination, HasWidth, IsNonzero, IsPrimitive, plus, scaled, IsMultipleOf}
+use Rattle.nz_spec.specs.Sums.{IsInCone, IsInSpan, IsInGroup, IsInBox, IsIndependent, HasRank}
 use Rattle.nz_spec.specs.Order.{Pairwise, IsListOf}
 use Rattle.nz_spec.specs.Boxes.{IsFloor}
-use Rattle.nz_spec.specs.Monoids.{IsLine, IsPositive, IsExtreme}
+use Rattle.nz_spec.specs.Monoids.{IsLine, IsPositive, IsIrreducible, IsExtreme}
 use Rattle.nz_spec.specs.Forms.{IsOtherColumn, AreEquations, IsDualForm, AreDualForms, IsSupportForm, AreSupportForms, IsNeeded}
 use Rattle.nz_spec.specs.Systems.{System, IsSystem, IsMember}
 use Rattle.nz_spec.specs.Constraints.{AreEquationsOf, AreRowsOf}
@@ -19,6 +19,7 @@ use Rattle.nz_linear.specs.Cones.{Satisfies, IsInRows, IsDoubleDescription, meet
 use Rattle.nz_linear.specs.Extreme.{IsPointed}
 use Rattle.nz_linear.specs.RayStep.{AreExtremeRays, IsRayStep, RayPair, IsAdjacentPair}
 use Rattle.nz_linear.specs.Facets.{facet_rows}
+use Rattle.nz_linear.specs.Coordinates.{in_coordinates}
 
 -- ---- rows and rays
 -- each list of rows has a list of rays that describes it
@@ -153,3 +154,29 @@ FloorIsUnique = (k c q r : ℤ) → pos 0 <ℤ k → IsFloor k c q → IsFloor k
 -- a vector of the span of a dual pair, less the vectors, each taken as often as the floor of its form's value by its divisor says, is in their box
 abbrev pub FloorsLeaveBox : Type 0
 FloorsLeaveBox = (w : ℕ) (ps : List Pair) (floors : List ℤ) (x : Vector) → IsDualPair w ps → HasWidth w x → IsInSpan w (map (λ p. p.vector) ps) x → AllZip (λ (p : Pair) q. IsFloor (divisor p) (dot p.form x) q) ps floors → IsInBox w (map (λ p. p.vector) ps) (minus x (combination w floors (map (λ p. p.vector) ps)))
+
+-- ---- cuts of a group
+-- a multiple of one generator added to another keeps the group
+abbrev pub ClearKeepsGroup : Type 0
+ClearKeepsGroup = (w : ℕ) (xs : List Vector) (b p : Vector) (ys : List Vector) (q : ℤ) (x : Vector) → HasWidth w b → Each (HasWidth w) (xs ++ ys) → Contains (xs ++ ys) p → IsInGroup w (xs ++ b ∷ ys) x ↔ IsInGroup w (xs ++ plus b (scaled q p) ∷ ys) x
+
+-- where a form is 0 at all generators but p, the vectors of the group at which it is 0 are the group of the others
+abbrev pub EquationCuts : Type 0
+EquationCuts = (w : ℕ) (h : Vector) (xs : List Vector) (p : Vector) (ys : List Vector) (x : Vector) → HasWidth w p → Each (HasWidth w) (xs ++ ys) → Each (λ v. dot h v ≡ pos 0) (xs ++ ys) → dot h p ≢ pos 0 → (IsInGroup w (xs ++ p ∷ ys) x × (dot h x ≡ pos 0)) ↔ IsInGroup w (xs ++ ys) x
+
+-- where a form is a multiple of g·m at all generators but p, and g is the greatest common divisor of g·m and its value g·a at p, the vectors of the group at which it is a multiple of g·m are the group with m·p in place of p
+abbrev pub CongruenceCuts : Type 0
+CongruenceCuts = (w : ℕ) (h : Vector) (g a m : ℤ) (xs : List Vector) (p : Vector) (ys : List Vector) (x : Vector) → HasWidth w p → Each (HasWidth w) (xs ++ ys) → Each (λ v. IsMultipleOf (g *ℤ m) (dot h v)) (xs ++ ys) → dot h p ≡ g *ℤ a → pos 0 <ℤ g → IsGcdOf g ((g *ℤ a) ∷ (g *ℤ m) ∷ []) → (IsInGroup w (xs ++ p ∷ ys) x × IsMultipleOf (g *ℤ m) (dot h x)) ↔ IsInGroup w (xs ++ scaled m p ∷ ys) x
+
+-- ---- coordinates
+-- in a lattice with an independent base, the irreducible elements of a stage are, in coordinates, those of the cone of its rows in coordinates
+abbrev pub IrreducibleInCoordinates : Type 0
+IrreducibleInCoordinates = (w : ℕ) (base rows : List Vector) (c : Vector) → Each (HasWidth w) base → IsIndependent w base → length c ≡ length base → IsIrreducible (IsInStage (IsInGroup w base) rows) (combination w c base) ↔ IsIrreducible (IsInRows (length base) (map (λ r. in_coordinates base r) rows)) c
+
+-- and so are its extreme generators
+abbrev pub ExtremeInCoordinates : Type 0
+ExtremeInCoordinates = (w : ℕ) (base rows : List Vector) (c : Vector) → Each (HasWidth w) base → IsIndependent w base → length c ≡ length base → IsExtreme (IsInStage (IsInGroup w base) rows) (combination w c base) ↔ IsExtreme (IsInRows (length base) (map (λ r. in_coordinates base r) rows)) c
+
+-- and its lines
+abbrev pub LinesInCoordinates : Type 0
+LinesInCoordinates = (w : ℕ) (base rows : List Vector) (c : Vector) → Each (HasWidth w) base → IsIndependent w base → length c ≡ length base → IsLine (IsInStage (IsInGroup w base) rows) (combination w c base) ↔ IsLine (IsInRows (length base) (map (λ r. in_coordinates base r) rows)) c

@@ -8,3 +8,4 @@ pub mod RayStep
 pub mod Echelon
 pub mod Facets
 pub mod Laws
+pub mod Coordinates

@@ -5,7 +5,7 @@
 //! Start reading at `specs/Laws.antt`; `docs/LEMMAS.md` lists the lemmas by what they are for.
 #![tactic(auto)]
 
-ghost use Rattle.nz_linear.specs.Laws.{RaysExist, RaysGenerate, VanishOrDual, StartIsState, SkipKeeps, PivotKeeps, RankIsChosen, SpanIsWhereZero, ColumnsAreOther, LeftAreEquations, EquationsExist, ChosenAreDualForms, DualFormIsUnique, CommonZeroIsLine, DualIsPointed, PointedIsPositive, ExtremeRaysExist, DualRaysStart, RayStepKeeps, NoRayTwice, RaysAreExtreme, RaysAreSupport, SupportDescribes, SupportIsNeeded, MembersAreStage, GcdExists, PrimitiveHasUnit, PrimitiveExists, PrimitiveIsUnique, FloorExists, FloorIsUnique, FloorsLeaveBox};
+ghost use Rattle.nz_linear.specs.Laws.{RaysExist, RaysGenerate, VanishOrDual, StartIsState, SkipKeeps, PivotKeeps, RankIsChosen, SpanIsWhereZero, ColumnsAreOther, LeftAreEquations, EquationsExist, ChosenAreDualForms, DualFormIsUnique, CommonZeroIsLine, DualIsPointed, PointedIsPositive, ExtremeRaysExist, DualRaysStart, RayStepKeeps, NoRayTwice, RaysAreExtreme, RaysAreSupport, SupportDescribes, SupportIsNeeded, MembersAreStage, GcdExists, PrimitiveHasUnit, PrimitiveExists, PrimitiveIsUnique, FloorExists, FloorIsUnique, FloorsLeaveBox, ClearKeepsGroup, EquationCuts, CongruenceCuts, IrreducibleInCoordinates, ExtremeInCoordinates, LinesInCoordinates};
 
 /// The theorem of Farkas: a cone by rows is a cone by rays, and the other way round.
 pub fn rays_generate()
@@ -69,4 +69,18 @@ pub fn floors_leave_a_box()
     ensures exist { FloorExists }
     ensures unique { FloorIsUnique }
     ensures rest { FloorsLeaveBox }
+{}
+
+/// A lattice is cut by an equation or a congruence at one of its generators, once the others are cleared.
+pub fn cuts_change_one_generator()
+    ensures clear { ClearKeepsGroup }
+    ensures equation { EquationCuts }
+    ensures congruence { CongruenceCuts }
+{}
+
+/// Coordinates over an independent base keep irreducible elements, extreme generators and lines.
+pub fn coordinates_keep_elements()
+    ensures irreducible { IrreducibleInCoordinates }
+    ensures extreme { ExtremeInCoordinates }
+    ensures lines { LinesInCoordinates }
 {}
