@@ -39,4 +39,5 @@ pub mod Floors
 pub mod DualForms
 pub mod Coordinates
 pub mod GroupCuts
+pub mod DualGroups
 pub mod Recipes
