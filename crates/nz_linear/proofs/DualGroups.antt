@@ -31,9 +31,6 @@ quotients_of (p ∷ ps) x h = let t = quotients_of ps x h.1 in record { list = h
 pub group_by_forms : (w : ℕ) (ps : List Pair) (x : Vector) → IsDualPair w ps → HasWidth w x → IsInSpan w (map (λ p. p.vector) ps) x → IsInGroup w (map (λ p. p.vector) ps) x ↔ Each (λ p. IsMultipleOf (divisor p) (dot p.form x)) ps
 group_by_forms w ps x d l i = (to, from)
   where
-    vs : List Vector
-    vs = map (λ (p : Pair). p.vector) ps
-
     to : IsInGroup w (map (λ p. p.vector) ps) x → Each (λ (p : Pair). IsMultipleOf (divisor p) (dot p.form x)) ps
     to g = zip_left (λ (p : Pair) q. dot p.form (combination w g.factors (map (λ (r : Pair). r.vector) ps)) ≡ q *ℤ divisor p) (λ (p : Pair). IsMultipleOf (divisor p) (dot p.form x)) ps g.factors
         (λ p q e. (q, ap (dot p.form) (sym g.same) ∙ e)) (values_at_combination w ps g.factors (g.one_each ∙ length-map ps (λ (p : Pair). p.vector)) d.widths d.dual)

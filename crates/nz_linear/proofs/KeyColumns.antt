@@ -19,7 +19,7 @@ use Rattle.nz_linear.proofs.Lists.{map_each, each_map, each_map2, each_right, zi
 use Rattle.nz_linear.proofs.VectorLaws.{length-plus, length-scaled, dot-plus, scaled-dot}
 use Rattle.nz_linear.proofs.Units.{entry-scaled, length-unit_at, dot-unit_at, unit_at-dot, entry-unit_own, entry-unit_other, leads_at, value_at_end}
 use Rattle.nz_linear.proofs.NormalForms.{column_cases}
-use Rattle.nz_linear.proofs.DualPairs.{dual_right, length-spread, value_step, values_at_spread, product_positive}
+use Rattle.nz_linear.proofs.DualPairs.{dual_right, length-spread, value_step, values_at_spread, product_positive, divisors_positive}
 use Rattle.nz_linear.proofs.DualCone.{swap, swapped_widths, swapped_dual}
 use Rattle.nz_linear.proofs.EliminationRun.{start_state, find_pivot, turned, clear, found_step}
 use Rattle.nz_linear.proofs.Elimination.{skip_keeps, pivot_keeps}
@@ -56,10 +56,6 @@ echelon w (h ∷ rows) l =
     ]
 
 -- ---- the columns left are no key columns
-divisors : (ps : List Pair) → IsDual ps → Each (λ p. pos 0 <ℤ divisor p) ps
-divisors [] d = tt
-divisors (p ∷ ps) d = (d.0, divisors ps d.2)
-
 -- what is known of a pair left, by its column
 pub record IsLeft (w : ℕ) (seen : List Vector) (c : ℕ) (p : Pair) : Type 0 where
   pub column : IsColumnPair w c p
@@ -72,7 +68,7 @@ all_left w seen columns chosen free s a =
     let wide : Each (HasWidths w) free = each_right (HasWidths w) chosen free s.pair.widths in
     let known : Each (λ p. HasWidths w p × (pos 0 <ℤ divisor p) × Each (λ r. dot r p.vector ≡ pos 0) seen) free =
     each_map2 (HasWidths w) (λ p. (pos 0 <ℤ divisor p) × Each (λ r. dot r p.vector ≡ pos 0) seen) (λ p. HasWidths w p × (pos 0 <ℤ divisor p) × Each (λ r. dot r p.vector ≡ pos 0) seen) free (λ p x y. (x, y.0, y.1)) wide
-    (each_map2 (λ (p : Pair). pos 0 <ℤ divisor p) (λ p. Each (λ r. dot r p.vector ≡ pos 0) seen) (λ p. (pos 0 <ℤ divisor p) × Each (λ r. dot r p.vector ≡ pos 0) seen) free (λ p x y. (x, y)) (divisors free (dual_right chosen free s.pair.dual)) s.free_vanish) in
+    (each_map2 (λ (p : Pair). pos 0 <ℤ divisor p) (λ p. Each (λ r. dot r p.vector ≡ pos 0) seen) (λ p. (pos 0 <ℤ divisor p) × Each (λ r. dot r p.vector ≡ pos 0) seen) free (λ p x y. (x, y)) (divisors_positive free (dual_right chosen free s.pair.dual)) s.free_vanish) in
     zip_change (λ c p. IsColumnPair w c p × (HasWidths w p × (pos 0 <ℤ divisor p) × Each (λ r. dot r p.vector ≡ pos 0) seen)) (IsLeft w seen) columns free
     (λ c p k. record { column = k.0; widths = k.1.0; positive = k.1.1; vanish = k.1.2 }) (zip_right (IsColumnPair w) (λ p. HasWidths w p × (pos 0 <ℤ divisor p) × Each (λ r. dot r p.vector ≡ pos 0) seen) columns free a.each known)
 

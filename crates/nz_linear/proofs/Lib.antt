@@ -40,4 +40,5 @@ pub mod DualForms
 pub mod Coordinates
 pub mod GroupCuts
 pub mod DualGroups
+pub mod SimplexCones
 pub mod Recipes

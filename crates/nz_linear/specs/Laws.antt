@@ -1,8 +1,8 @@
 -- The theorems on rows, rays, elimination and forms that the engines rest on.
-use Rattle.std.specs.Prelude.{◌≡◌, ◌≢◌, ◌↔◌, ◌⊎◌, ℕ, ◌+◌, ◌<◌, List, [], ◌∷◌, ◌++◌, length, map, ℤ, pos, ◌*ℤ◌, ◌<ℤ◌, Contains}
+use Rattle.std.specs.Prelude.{◌≡◌, ◌≢◌, ◌↔◌, ◌⊎◌, ℕ, ◌+◌, ◌<◌, List, [], ◌∷◌, ◌++◌, length, map, ℤ, pos, ◌*ℤ◌, ◌<ℤ◌, Contains, ◌≤ℤ◌, neg_ℤ}
 use Rattle.std.specs.List.{AllByRecursion as Each, AllZip}
 use Rattle.nz_spec.specs.Vectors.{Vector, dot, minus, combination, HasWidth, IsNonzero, IsPrimitive, plus, scaled, IsMultipleOf}
-use Rattle.nz_spec.specs.Sums.{IsInCone, IsInSpan, IsInGroup, IsInBox, IsIndependent, HasRank}
+use Rattle.nz_spec.specs.Sums.{IsInCone, IsInSpan, IsInGroup, IsInBox, IsIndependent, HasRank, IsInside}
 use Rattle.nz_spec.specs.Order.{Pairwise, IsListOf}
 use Rattle.nz_spec.specs.Boxes.{IsFloor}
 use Rattle.nz_spec.specs.Monoids.{IsLine, IsPositive, IsIrreducible, IsExtreme}
@@ -11,7 +11,7 @@ use Rattle.nz_spec.specs.Systems.{System, IsSystem, IsMember}
 use Rattle.nz_spec.specs.Constraints.{AreEquationsOf, AreRowsOf}
 use Rattle.nz_spec.specs.Stages.{IsInLattice, IsInStage}
 use Rattle.nz_spec.specs.Laws.{IsDescribedCone}
-use Rattle.nz_linear.specs.DualPairs.{Pair, divisor, IsDualPair, OnlyZero}
+use Rattle.nz_linear.specs.DualPairs.{Pair, divisor, IsDualPair, OnlyZero, pair_of, IsDual, HasWidths}
 use Rattle.nz_linear.specs.Elimination.{IsPivotStep, IsState, unit_pairs, CommonZero, DualOfRows}
 use Rattle.nz_linear.specs.Echelon.{AreColumnPairs}
 use Rattle.nz_linear.specs.Division.{IsGcdOf, HasUnitValue, IsPrimitiveOf}
@@ -167,6 +167,27 @@ EquationCuts = (w : ℕ) (h : Vector) (xs : List Vector) (p : Vector) (ys : List
 -- where a form is a multiple of g·m at all generators but p, and g is the greatest common divisor of g·m and its value g·a at p, the vectors of the group at which it is a multiple of g·m are the group with m·p in place of p
 abbrev pub CongruenceCuts : Type 0
 CongruenceCuts = (w : ℕ) (h : Vector) (g a m : ℤ) (xs : List Vector) (p : Vector) (ys : List Vector) (x : Vector) → HasWidth w p → Each (HasWidth w) (xs ++ ys) → Each (λ v. IsMultipleOf (g *ℤ m) (dot h v)) (xs ++ ys) → dot h p ≡ g *ℤ a → pos 0 <ℤ g → IsGcdOf g ((g *ℤ a) ∷ (g *ℤ m) ∷ []) → (IsInGroup w (xs ++ p ∷ ys) x × IsMultipleOf (g *ℤ m) (dot h x)) ↔ IsInGroup w (xs ++ scaled m p ∷ ys) x
+
+-- the form of the changed generator changes with it, so that a dual pair stays one
+abbrev pub ClearKeepsDual : Type 0
+ClearKeepsDual = (w : ℕ) (p r : Pair) (ps : List Pair) (q a b : ℤ) → HasWidths w p → HasWidths w r → Each (HasWidths w) ps → pos 0 <ℤ a → a *ℤ divisor p ≡ b *ℤ divisor r → IsDual (p ∷ r ∷ ps) → IsDual (pair_of (plus (scaled a p.form) (scaled (neg_ℤ (q *ℤ b)) r.form)) p.vector ∷ pair_of r.form (plus r.vector (scaled q p.vector)) ∷ ps)
+
+-- ---- simplices
+-- a vector of the span of a dual pair is in its group just where each form is a multiple of its divisor
+abbrev pub GroupByForms : Type 0
+GroupByForms = (w : ℕ) (ps : List Pair) (x : Vector) → IsDualPair w ps → HasWidth w x → IsInSpan w (map (λ p. p.vector) ps) x → IsInGroup w (map (λ p. p.vector) ps) x ↔ Each (λ p. IsMultipleOf (divisor p) (dot p.form x)) ps
+
+-- in its cone just where each form is at least 0
+abbrev pub ConeByForms : Type 0
+ConeByForms = (w : ℕ) (ps : List Pair) (x : Vector) → IsDualPair w ps → HasWidth w x → IsInSpan w (map (λ p. p.vector) ps) x → IsInCone w (map (λ p. p.vector) ps) x ↔ Each (λ p. pos 0 ≤ℤ dot p.form x) ps
+
+-- and inside it just where each form is above 0
+abbrev pub InsideByForms : Type 0
+InsideByForms = (w : ℕ) (ps : List Pair) (x : Vector) → IsDualPair w ps → HasWidth w x → IsInSpan w (map (λ p. p.vector) ps) x → IsInside w (map (λ p. p.vector) ps) x ↔ Each (λ p. pos 0 <ℤ dot p.form x) ps
+
+-- no vector is inside two lists of which one is at least 0 at a form, and above 0 at some vector, and the other at most 0
+abbrev pub ApartByForm : Type 0
+ApartByForm = (w : ℕ) (f : Vector) (vs us : List Vector) (v x : Vector) → Each (HasWidth w) vs → Each (HasWidth w) us → HasWidth w f → Each (λ u. pos 0 ≤ℤ dot f u) vs → Contains vs v → pos 0 <ℤ dot f v → Each (λ u. dot f u ≤ℤ pos 0) us → IsInside w vs x → IsInside w us x → ⊥
 
 -- ---- coordinates
 -- in a lattice with an independent base, the irreducible elements of a stage are, in coordinates, those of the cone of its rows in coordinates

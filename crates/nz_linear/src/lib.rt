@@ -5,7 +5,7 @@
 //! Start reading at `specs/Laws.antt`; `docs/LEMMAS.md` lists the lemmas by what they are for.
 #![tactic(auto)]
 
-ghost use Rattle.nz_linear.specs.Laws.{RaysExist, RaysGenerate, VanishOrDual, StartIsState, SkipKeeps, PivotKeeps, RankIsChosen, SpanIsWhereZero, ColumnsAreOther, LeftAreEquations, EquationsExist, ChosenAreDualForms, DualFormIsUnique, CommonZeroIsLine, DualIsPointed, PointedIsPositive, ExtremeRaysExist, DualRaysStart, RayStepKeeps, NoRayTwice, RaysAreExtreme, RaysAreSupport, SupportDescribes, SupportIsNeeded, MembersAreStage, GcdExists, PrimitiveHasUnit, PrimitiveExists, PrimitiveIsUnique, FloorExists, FloorIsUnique, FloorsLeaveBox, ClearKeepsGroup, EquationCuts, CongruenceCuts, IrreducibleInCoordinates, ExtremeInCoordinates, LinesInCoordinates};
+ghost use Rattle.nz_linear.specs.Laws.{RaysExist, RaysGenerate, VanishOrDual, StartIsState, SkipKeeps, PivotKeeps, RankIsChosen, SpanIsWhereZero, ColumnsAreOther, LeftAreEquations, EquationsExist, ChosenAreDualForms, DualFormIsUnique, CommonZeroIsLine, DualIsPointed, PointedIsPositive, ExtremeRaysExist, DualRaysStart, RayStepKeeps, NoRayTwice, RaysAreExtreme, RaysAreSupport, SupportDescribes, SupportIsNeeded, MembersAreStage, GcdExists, PrimitiveHasUnit, PrimitiveExists, PrimitiveIsUnique, FloorExists, FloorIsUnique, FloorsLeaveBox, ClearKeepsGroup, EquationCuts, CongruenceCuts, ClearKeepsDual, GroupByForms, ConeByForms, InsideByForms, ApartByForm, IrreducibleInCoordinates, ExtremeInCoordinates, LinesInCoordinates};
 
 /// The theorem of Farkas: a cone by rows is a cone by rays, and the other way round.
 pub fn rays_generate()
@@ -76,6 +76,15 @@ pub fn cuts_change_one_generator()
     ensures clear { ClearKeepsGroup }
     ensures equation { EquationCuts }
     ensures congruence { CongruenceCuts }
+    ensures dual { ClearKeepsDual }
+{}
+
+/// The group, the cone and the inside of a simplex by its forms.
+pub fn simplices_go_by_their_forms()
+    ensures group { GroupByForms }
+    ensures cone { ConeByForms }
+    ensures inside { InsideByForms }
+    ensures apart { ApartByForm }
 {}
 
 /// Coordinates over an independent base keep irreducible elements, extreme generators and lines.
