@@ -147,9 +147,9 @@ stage_coordinates w base rows l free = record {
   independent = free;
   one_each = λ c i. i.0;
   forth = λ c i. record {
-      in_lattice = record { factors = c; one_each = i.0; same = refl };
-      at_least = each_map (λ r. pos 0 ≤ℤ dot (in_coordinates base r) c) (λ r. pos 0 ≤ℤ dot r (combination w c base)) rows (λ r h. rw (row_value w base r c l) h) (map_each (λ r. in_coordinates base r) (λ f. pos 0 ≤ℤ dot f c) rows i.1);
-    };
+    in_lattice = record { factors = c; one_each = i.0; same = refl };
+    at_least = each_map (λ r. pos 0 ≤ℤ dot (in_coordinates base r) c) (λ r. pos 0 ≤ℤ dot r (combination w c base)) rows (λ r h. rw (row_value w base r c l) h) (map_each (λ r. in_coordinates base r) (λ f. pos 0 ≤ℤ dot f c) rows i.1);
+  };
   back = λ x m.
       let g = m.in_lattice in (
         g.factors,

@@ -139,8 +139,7 @@ congruence_cut w h g a m xs p ys x lp l z e pg d = (
       let lm : HasWidth w (scaled m p) = length-scaled w m p lp in
       let same : plus (scaled (s.factor *ℤ m) p) s.rest ≡ x = ap (λ u. plus u s.rest) (sym (scaled-scaled s.factor m p)) ∙ sym s.same in
       let value : dot h (scaled m p) ≡ (g *ℤ a) *ℤ m = dot-scaled h m p ∙ ap (λ t. m *ℤ t) e ∙ *ℤ_comm m (g *ℤ a) in
-      let first : IsMultipleOf (g *ℤ m) (s.factor *ℤ dot h (scaled m p)) = multiple_mul (g *ℤ m) s.factor (dot h (scaled m p)) (subst (IsMultipleOf (g *ℤ m)) (sym value) (gcd_multiple g a m m (pos 1, sym (one-mul m)))) in
-      (
+      let first : IsMultipleOf (g *ℤ m) (s.factor *ℤ dot h (scaled m p)) = multiple_mul (g *ℤ m) s.factor (dot h (scaled m p)) (subst (IsMultipleOf (g *ℤ m)) (sym value) (gcd_multiple g a m m (pos 1, sym (one-mul m)))) in (
         subst (IsInGroup w (xs ++ p ∷ ys)) same (group_join w xs p ys (s.factor *ℤ m) s.rest (each_insert (HasWidth w) p xs ys (lp, l)) s.in_others),
         subst (IsMultipleOf (g *ℤ m)) (sym (split_value w h (scaled m p) (xs ++ ys) x lm l s)) (multiple_add (g *ℤ m) (s.factor *ℤ dot h (scaled m p)) (dot h s.rest) first (group_multiple w h (g *ℤ m) (xs ++ ys) s.rest l z s.in_others)),
       )),
