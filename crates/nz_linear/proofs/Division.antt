@@ -10,9 +10,9 @@ use Rattle.nz_linear.specs.Division.{IsGcdOf, HasUnitValue, IsPrimitiveOf}
 use Rattle.nz_spec.proofs.IntLaws.{add-mul, mul_assoc, multiple_zero, multiple_add, multiple_mul}
 use Rattle.nz_spec.proofs.PrimitiveLaws.{primitive_same, one_of_divisor}
 use Rattle.nz_linear.proofs.Ring.{sums, ring_z, one-mul, mul-one}
-use Rattle.nz_linear.proofs.Signs.{int_zero_or_not, cancel_lt, cancel_mul, sign_cases}
+use Rattle.nz_linear.proofs.Signs.{cancel_lt, cancel_mul, sign_cases}
 use Rattle.nz_linear.proofs.Lists.{each_map}
-use Rattle.nz_spec.proofs.VectorLaws.{dot-IsZero, dot-scaled}
+use Rattle.nz_spec.proofs.VectorLaws.{dot-IsZero, dot-scaled, int_is_zero}
 use Rattle.nz_linear.proofs.VectorLaws.{length-scaled, cons_same, scaled-dot}
 
 -- ---- floor division
@@ -128,7 +128,7 @@ quotients m (x ∷ xs) h = let r = quotients m xs h.1 in (h.0.0 ∷ r.0, cons_sa
 
 -- a vector is primitive just where some form has the value 1 at it
 gcd_nonzero : (g : ℤ) → pos 0 ≤ℤ g → IsMultipleOf g (pos 1) → pos 1 ≤ℤ g
-gcd_nonzero g h m = elim (int_zero_or_not g) [
+gcd_nonzero g h m = elim (int_is_zero g) [
   | inl z ↦ absurd (let e : pos 1 ≡ pos 0 = m.1 ∙ ap (λ t. m.0 *ℤ t) z ∙ *ℤ-zero m.0 in omega (arith, sums))
   | inr n ↦ omega (arith, sums)
 ]

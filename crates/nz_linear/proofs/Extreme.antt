@@ -11,9 +11,9 @@ use Rattle.nz_spec.proofs.ListLaws.{Each-contains, contains_here, contains_there
 use Rattle.nz_linear.specs.Cones.{Satisfies}
 use Rattle.nz_linear.specs.Extreme.{VanishesWith, IsPointed, Splits, one_if_positive, positive_count}
 use Rattle.nz_linear.proofs.Ring.{sums, ring_z, neg-mul}
-use Rattle.nz_linear.proofs.Signs.{mul_pos, cancel_le, mul_is_zero, sign_cases, int_zero_or_not}
+use Rattle.nz_linear.proofs.Signs.{mul_pos, cancel_le, mul_is_zero, sign_cases}
 use Rattle.nz_linear.proofs.Lists.{each_map, each_map2, each_map3}
-use Rattle.nz_spec.proofs.VectorLaws.{dot-scaled, dot-zero}
+use Rattle.nz_spec.proofs.VectorLaws.{dot-scaled, dot-zero, int_is_zero}
 use Rattle.nz_linear.proofs.VectorLaws.{length-plus, length-scaled, dot-plus, same_values}
 use Rattle.nz_linear.proofs.Combinations.{combination-skip}
 use Rattle.nz_linear.proofs.Cones.{above_zero, cone_scaled, cone_divide}
@@ -67,7 +67,7 @@ none_here p q P Q e f = omega (arith, sums, ap (λ t. t *ℤ Q) f, ap (λ t. P *
 
 greatest : (g v : Vector) (rows : List Vector) → Satisfies rows v → VanishesWith rows v g → Each (λ a. dot a v ≡ pos 0) rows ⊎ Greatest g v rows
 greatest g v [] s z = inl tt
-greatest g v (a ∷ rows) s z = elim (int_zero_or_not (dot a v)) [
+greatest g v (a ∷ rows) s z = elim (int_is_zero (dot a v)) [
   | inl e ↦ elim (greatest g v rows s.1 z.1) [
     | inl all ↦ inl (e, all)
     | inr b ↦ inr (record { row = b.row; among = contains_there a b.row rows b.among; up = b.up; best = (none_here (dot a g) (dot a v) (dot b.row g) (dot b.row v) e (z.0 e), b.best) })
@@ -215,7 +215,7 @@ collect w rows E x (c ∷ cs) (g ∷ gs) lr lE n l s each z =
     let zrest : VanishesWith rows x (combination w cs gs) = each_map3 (λ a. dot a x ≡ pos 0 → dot a (plus (scaled c g) (combination w cs gs)) ≡ pos 0) (λ a. pos 0 ≤ℤ dot a g) (λ a. pos 0 ≤ℤ dot a (combination w cs gs)) (λ a. dot a x ≡ pos 0 → dot a (combination w cs gs) ≡ pos 0) rows
     (λ a f p q e. omega (arith, sums, value a, f e, mul-nonneg c (dot a g) n.0 p, q)) z s.0 rest in
     let tail = collect w rows E x cs gs lr lE n.1 l.1 s.1 each.1 zrest in
-    elim (int_zero_or_not c) [
+    elim (int_is_zero c) [
       | inl e ↦ subst (λ (k : ℤ). IsInCone w E (plus (scaled k g) (combination w cs gs))) (sym e) (subst (IsInCone w E) (sym (combination-skip w cs g gs l.0 l.1)) tail)
       | inr d ↦ (
           let up : pos 0 <ℤ c = omega (arith, sums, n.0, d) in

@@ -8,7 +8,7 @@ use Rattle.nz_spec.specs.Order.{IsListOf}
 use Rattle.nz_spec.specs.Forms.{IsKeyColumn, IsOtherColumn, IsEquationAt, AreEquations}
 use Rattle.nz_spec.proofs.VectorLaws.{dot-zero, dot-scaled}
 use Rattle.nz_spec.proofs.ListLaws.{Each-from_contains, contains_here, contains_there, contains_cases, contains_none}
-use Rattle.nz_spec.proofs.EquationLaws.{dot_comm, zero_on_span}
+use Rattle.nz_spec.proofs.EquationLaws.{dot_comm, zero_on_span, column_cases, entry-scaled}
 use Rattle.nz_linear.specs.DualPairs.{Pair, pair_of, divisor, IsApart, HasWidths, IsDual, product, spread}
 use Rattle.nz_linear.specs.Division.{IsPrimitiveOf}
 use Rattle.nz_linear.specs.Elimination.{IsState, unit_pairs}
@@ -17,8 +17,7 @@ use Rattle.nz_linear.proofs.Ring.{sums}
 use Rattle.nz_linear.proofs.Signs.{mul_is_zero, mul_is_pos}
 use Rattle.nz_linear.proofs.Lists.{map_each, each_map, each_map2, each_right, zip_both, zip_right, zip_left, zip_change, zip_meet}
 use Rattle.nz_linear.proofs.VectorLaws.{length-plus, length-scaled, dot-plus, scaled-dot}
-use Rattle.nz_linear.proofs.Units.{entry-scaled, length-unit_at, dot-unit_at, unit_at-dot, entry-unit_own, entry-unit_other, leads_at, value_at_end}
-use Rattle.nz_linear.proofs.NormalForms.{column_cases}
+use Rattle.nz_linear.proofs.Units.{length-unit_at, dot-unit_at, unit_at-dot, entry-unit_own, entry-unit_other, leads_at, value_at_end}
 use Rattle.nz_linear.proofs.DualPairs.{dual_right, length-spread, value_step, values_at_spread, product_positive, divisors_positive}
 use Rattle.nz_linear.proofs.DualCone.{swap, swapped_widths, swapped_dual}
 use Rattle.nz_linear.proofs.EliminationRun.{start_state, find_pivot, turned, clear, found_step}
@@ -202,7 +201,7 @@ others_vanish w (c ∷ columns) (p ∷ ps) l d z = (
     )
 
 pub primitive_entry : (w : ℕ) (b f : Vector) (j : ℕ) (i : IsPrimitiveOf b f) → HasWidth w f → i.factor *ℤ entry f j ≡ entry b j
-primitive_entry w b f j i l = sym (entry-scaled w i.factor f j l) ∙ ap (λ v. entry v j) i.same
+primitive_entry w b f j i l = sym (entry-scaled i.factor f j) ∙ ap (λ v. entry v j) i.same
 
 pub left_equation : (w : ℕ) (seen : List Vector) (columns : List ℕ) (c : ℕ) (p : Pair) (f : Vector) → IsLeft w seen c p → ((j : ℕ) → IsOtherColumn w seen j → j ≢ c → entry p.vector j ≡ pos 0) → IsPrimitiveOf p.vector f → IsEquationAt w seen c f
 left_equation w seen columns c p f k z i =

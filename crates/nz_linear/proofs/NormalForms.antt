@@ -1,5 +1,5 @@
 -- Normal forms: a form that is 0 outside the key columns is known by its values.
-use Rattle.std.proofs.Common.{◌≡◌, ◌≢◌, ◌⊎◌, inl, inr, ℕ, zero, suc, List, ℤ, pos, ◌+ℤ◌, ◌*ℤ◌, neg_ℤ, ◌<ℤ◌, refl, sym, ap, ap₂, ◌∙◌, arith}
+use Rattle.std.proofs.Common.{◌≡◌, ℕ, List, ℤ, pos, ◌+ℤ◌, ◌*ℤ◌, neg_ℤ, ◌<ℤ◌, sym, ap₂, ◌∙◌, arith}
 use Rattle.std.specs.List.{AllByRecursion as Each}
 use Rattle.nz_spec.specs.Vectors.{Vector, dot, plus, scaled, entry, HasWidth, IsZero, IsPrimitive}
 use Rattle.nz_spec.specs.Forms.{IsOtherColumn}
@@ -39,9 +39,3 @@ normal_along w G f g a b lf lg lG on at =
 pub normal_unique : (w : ℕ) (G : List Vector) (f g : Vector) (a b : ℤ) → pos 0 <ℤ a → pos 0 <ℤ b → HasWidth w f → HasWidth w g → IsPrimitive f → IsPrimitive g → Each (HasWidth w) G → Each (λ x. a *ℤ dot f x ≡ b *ℤ dot g x) G
     → ((j : ℕ) → IsOtherColumn w G j → a *ℤ entry f j ≡ b *ℤ entry g j) → f ≡ g
 normal_unique w G f g a b pa pb lf lg pf pg lG on at = primitive_unique w a b f g pa pb lf lg (normal_along w G f g a b lf lg lG on at) pf pg
-
-pub column_cases : (j c : ℕ) → (j ≡ c) ⊎ (j ≢ c)
-column_cases zero zero = inl refl
-column_cases zero (suc c) = inr (λ e. omega arith)
-column_cases (suc j) zero = inr (λ e. omega arith)
-column_cases (suc j) (suc c) = elim (column_cases j c) [ inl e ↦ inl (ap suc e) | inr n ↦ inr (λ e. n (omega arith)) ]

@@ -3,7 +3,7 @@ use Rattle.std.proofs.Common.{◌≡◌, ◌≢◌, ◌⊎◌, inl, inr, ℕ, Li
 use Rattle.std.specs.List.{AllByRecursion as Each, Contains}
 use Rattle.nz_spec.specs.Vectors.{plus, Vector, dot, scaled, zero_vector, combination, HasWidth, IsPrimitive}
 use Rattle.nz_spec.specs.Sums.{IsInCone}
-use Rattle.nz_spec.proofs.VectorLaws.{zero_or_not, zero_vector_of, add-scaled}
+use Rattle.nz_spec.proofs.VectorLaws.{zero_or_not, zero_vector_of, add-scaled, int_is_zero}
 use Rattle.nz_spec.proofs.SumLaws.{IsInCone-zero}
 use Rattle.nz_spec.proofs.ListLaws.{Each-contains, contains_here, contains_there}
 use Rattle.nz_spec.proofs.ConstraintLaws.{nonneg_on_cone}
@@ -14,7 +14,7 @@ use Rattle.nz_linear.specs.Extreme.{VanishesWith, IsPointed, Splits}
 use Rattle.nz_linear.specs.DoubleDescription.{IsOnRay, IsExtremeByZeros, AreAdjacent}
 use Rattle.nz_linear.specs.RayStep.{AreExtremeRays}
 use Rattle.nz_linear.proofs.Ring.{sums}
-use Rattle.nz_linear.proofs.Signs.{sign_cases, int_zero_or_not}
+use Rattle.nz_linear.proofs.Signs.{sign_cases}
 use Rattle.nz_linear.proofs.Lists.{each_map, each_map2, each_map3}
 use Rattle.nz_linear.proofs.Cones.{above_zero, cone_skip, cone_head, cone_scaled}
 use Rattle.nz_linear.proofs.ConeMembers.{cone_within}
@@ -63,9 +63,9 @@ primitives w rows (r ∷ rays) l s =
 vanishes_or_not : (rows : List Vector) (x y : Vector) → VanishesWith rows x y ⊎ ¬ VanishesWith rows x y
 vanishes_or_not [] x y = inl tt
 vanishes_or_not (a ∷ rows) x y = elim (vanishes_or_not rows x y) [
-  | inl v ↦ elim (int_zero_or_not (dot a y)) [
+  | inl v ↦ elim (int_is_zero (dot a y)) [
     | inl e ↦ inl (λ z. e, v)
-    | inr n ↦ elim (int_zero_or_not (dot a x)) [
+    | inr n ↦ elim (int_is_zero (dot a x)) [
       | inl z ↦ inr (λ (h : VanishesWith (a ∷ rows) x y). n (h.0 z))
       | inr m ↦ inl (λ z. absurd (m z), v)
     ]

@@ -6,7 +6,7 @@ use Rattle.std.specs.List.{AllByRecursion as Each}
 use Rattle.nz_spec.specs.Vectors.{Vector, dot, plus, scaled, zero_vector, HasWidth, IsZero, IsNonzero, IsPrimitive}
 use Rattle.nz_spec.specs.Monoids.{IsAlong, SplitsAlong, IsExtreme, IsExtremeRay}
 use Rattle.nz_spec.proofs.IntLaws.{mul-nonneg}
-use Rattle.nz_spec.proofs.VectorLaws.{dot-scaled, IsZero-zero_vector, scaled-scaled, zero_vector_of, one-scaled, add-scaled}
+use Rattle.nz_spec.proofs.VectorLaws.{dot-scaled, IsZero-zero_vector, scaled-scaled, zero_vector_of, one-scaled, add-scaled, int_is_zero}
 use Rattle.nz_linear.specs.Cones.{Satisfies, IsInRows}
 use Rattle.nz_linear.specs.Extreme.{VanishesWith, IsPointed}
 use Rattle.nz_linear.specs.DoubleDescription.{IsOnRay, IsExtremeByZeros}
@@ -14,7 +14,7 @@ use Rattle.nz_spec.proofs.ListLaws.{Each-contains}
 use Rattle.nz_linear.specs.RayStep.{AreExtremeRays}
 use Rattle.nz_linear.proofs.RayList.{each_extreme_listed}
 use Rattle.nz_linear.proofs.Ring.{sums, neg-mul, mul-one}
-use Rattle.nz_linear.proofs.Signs.{mul_le, mul_is_zero, mul_is_nonneg, sign_cases, int_zero_or_not}
+use Rattle.nz_linear.proofs.Signs.{mul_le, mul_is_zero, mul_is_nonneg, sign_cases}
 use Rattle.nz_linear.proofs.Lists.{each_map, each_map2, each_map3, map_each}
 use Rattle.nz_linear.proofs.VectorLaws.{length-plus, length-scaled, dot-plus, zero-scaled, same_values, cancel_scaled, scaled_is_zero}
 use Rattle.nz_linear.proofs.Cones.{above_zero}
@@ -68,7 +68,7 @@ zeros_of_splits w rows x pt lx sx nx s y ly sy v =
     let lz : HasWidth w z = length-plus w (scaled N x) (scaled (negsuc 0) y) (length-scaled w N x lx) (length-scaled w (negsuc 0) y ly) in
     let value : (a : Vector) → dot a z ≡ N *ℤ dot a x +ℤ negsuc 0 *ℤ dot a y = λ a. dot-plus w a (scaled N x) (scaled (negsuc 0) y) (length-scaled w N x lx) (length-scaled w (negsuc 0) y ly) ∙ ap₂ ◌+ℤ◌ (dot-scaled a N x) (dot-scaled a (negsuc 0) y) in
     let sz : Satisfies rows z = each_map3 (λ a. pos 0 ≤ℤ dot a x) (λ a. dot a x ≡ pos 0 → dot a y ≡ pos 0) (λ a. dot a y ≤ℤ N) (λ a. pos 0 ≤ℤ dot a z) rows
-    (λ a px f h. elim (int_zero_or_not (dot a x)) [
+    (λ a px f h. elim (int_is_zero (dot a x)) [
       | inl e ↦ (let g = f e in omega (arith, ints, value a, ap (λ t. N *ℤ t) e, *ℤ-zero N, g))
       | inr d ↦ (let up : pos 1 ≤ℤ dot a x = omega (arith, sums) in let k = mul_le N (pos 1) (dot a x) (let q = n.1 in omega (arith, sums)) up in omega (arith, ints, value a, k, mul-one N, h))
     ]) sx v n.2 in

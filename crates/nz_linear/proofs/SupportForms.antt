@@ -7,7 +7,7 @@ use Rattle.nz_spec.specs.Vectors.{Vector, dot, plus, scaled, zero_vector, entry,
 use Rattle.nz_spec.specs.Sums.{IsIndependent, HasRank}
 use Rattle.nz_spec.specs.Forms.{IsOtherColumn, IsZeroOnFacet, IsSupportForm}
 use Rattle.nz_spec.proofs.IntLaws.{mul-add, mul_assoc}
-use Rattle.nz_spec.proofs.VectorLaws.{dot-scaled, dot-zero}
+use Rattle.nz_spec.proofs.VectorLaws.{dot-scaled, dot-zero, int_is_zero}
 use Rattle.nz_spec.proofs.SumLaws.{length-zero_vector}
 use Rattle.std.proofs.lemmas.List.{length-map}
 use Rattle.nz_spec.proofs.EquationLaws.{dot_comm, zero_on_span, zero_outside_keys}
@@ -19,7 +19,7 @@ use Rattle.nz_linear.specs.Elimination.{IsState}
 use Rattle.nz_linear.specs.DoubleDescription.{IsOnRay}
 use Rattle.nz_linear.specs.Facets.{IsValidForm, IsExtremeForm}
 use Rattle.nz_linear.proofs.Ring.{zero_sum, cross_gone, sums, ring_z, mul-one, neg-mul}
-use Rattle.nz_linear.proofs.Signs.{mul_le, cancel_mul, int_zero_or_not}
+use Rattle.nz_linear.proofs.Signs.{mul_le, cancel_mul}
 use Rattle.nz_linear.proofs.Lists.{each_map, each_map2, each_map3, each_append, each_right}
 use Rattle.nz_linear.proofs.VectorLaws.{length-plus, length-scaled, dot-plus, plus-dot, scaled-dot, scaled_is_zero, same_values}
 use Rattle.nz_linear.proofs.Division.{primitive_nonzero}
@@ -38,7 +38,7 @@ pub record SomePositive (f : Vector) (G : List Vector) : Type 0 where
 
 pub zero_or_positive : (f : Vector) (G : List Vector) → Each (λ g. pos 0 ≤ℤ dot f g) G → Each (λ g. dot f g ≡ pos 0) G ⊎ SomePositive f G
 zero_or_positive f [] n = inl tt
-zero_or_positive f (g ∷ G) n = elim (int_zero_or_not (dot f g)) [
+zero_or_positive f (g ∷ G) n = elim (int_is_zero (dot f g)) [
   | inr d ↦ inr (record { vector = g; has = contains_here g G; positive = (let p = n.0 in omega (arith, sums)) })
   | inl z ↦ elim (zero_or_positive f G n.1) [
     | inl all ↦ inl (z, all)
@@ -58,7 +58,7 @@ zero_part f [] = record { list = []; members = tt; zero_on = tt; all = λ g c e.
 zero_part f (g ∷ G) =
     let t = zero_part f G in
     let still = each_map (Contains G) (Contains (g ∷ G)) t.list (λ x c. contains_there g x G c) t.members in
-    elim (int_zero_or_not (dot f g)) [
+    elim (int_is_zero (dot f g)) [
       | inl z ↦ record {
         list = g ∷ t.list;
         members = (contains_here g G, still);
@@ -144,7 +144,7 @@ across_is_zero w G Z f x g lG v e all lx zx at cg pg zg =
     let zero_there : Each (λ a. dot f a ≡ pos 0 → dot x a ≡ pos 0) G = Each-from_contains (λ a. dot f a ≡ pos 0 → dot x a ≡ pos 0) G (λ a c z. dot_comm x a ∙ Each-contains (λ u. dot u x ≡ pos 0) Z a zx (all a c z)) in
     let below : Each (λ a. dot a (scaled (negsuc 0) x) ≤ℤ N) G = n.2 in
     let at_least : Each (λ a. pos 0 ≤ℤ dot y a) G = each_map3 (λ a. pos 0 ≤ℤ dot f a) (λ a. dot f a ≡ pos 0 → dot x a ≡ pos 0) (λ a. dot a (scaled (negsuc 0) x) ≤ℤ N) (λ a. pos 0 ≤ℤ dot y a) G
-    (λ a p z h. elim (int_zero_or_not (dot f a)) [
+    (λ a p z h. elim (int_is_zero (dot f a)) [
       | inl o ↦ (let q = z o in omega (arith, sums, value a, ap (λ t. N *ℤ t) o, *ℤ-zero N, q))
       | inr d ↦ (
           let up : pos 1 ≤ℤ dot f a = omega (arith, sums) in

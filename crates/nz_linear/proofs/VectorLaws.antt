@@ -8,8 +8,8 @@ use Rattle.nz_spec.proofs.VectorLaws.{dot-scaled, dot-zero, plus_comm, plus_asso
 use Rattle.nz_spec.proofs.VectorLaws as spec
 use Rattle.nz_spec.proofs.SumLaws.{length-zero_vector}
 use Rattle.nz_spec.proofs.EquationLaws.{dot_comm}
+use Rattle.nz_spec.proofs.PrimitiveLaws.{scaled_cancel}
 use Rattle.nz_linear.proofs.Ring.{sums, one-mul}
-use Rattle.nz_linear.proofs.Signs.{cancel_mul}
 
 pub cons_same : {a b : ℤ} {x y : Vector} → a ≡ b → x ≡ y → (a ∷ x) ≡ (b ∷ y)
 cons_same e r = λ i. e i ∷ r i
@@ -62,7 +62,7 @@ pub cancel_plus : (w : ℕ) (x y z : Vector) → length x ≡ w → length y ≡
 cancel_plus w x y z h k l e = same_values w y z k l (λ f. omega (arith, sums, ap (dot f) e, dot-plus w f x y h k, dot-plus w f x z h l))
 
 pub cancel_scaled : (w : ℕ) (k : ℤ) (x y : Vector) → pos 0 <ℤ k → length x ≡ w → length y ≡ w → scaled k x ≡ scaled k y → x ≡ y
-cancel_scaled w k x y p h l e = same_values w x y h l (λ f. cancel_mul k (dot f x) (dot f y) p (sym (dot-scaled f k x) ∙ ap (dot f) e ∙ dot-scaled f k y))
+cancel_scaled w k x y p h l e = scaled_cancel k (λ z. omega (arith, sums)) x y e
 
 pub scaled_is_zero : (w : ℕ) (k : ℤ) (x : Vector) → pos 0 <ℤ k → length x ≡ w → scaled k x ≡ zero_vector w → x ≡ zero_vector w
 scaled_is_zero w k x p h e = cancel_scaled w k x (zero_vector w) p h (length-zero_vector w) (e ∙ sym (scaled-zero k w))
