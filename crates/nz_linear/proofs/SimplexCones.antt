@@ -9,6 +9,7 @@ use Rattle.nz_spec.proofs.IntLaws.{mul-nonneg}
 use Rattle.nz_spec.proofs.ListLaws.{contains_cases, contains_none}
 use Rattle.nz_spec.proofs.SumLaws.{dot-combination}
 use Rattle.nz_spec.proofs.VectorLaws.{dot-scaled}
+use Rattle.nz_linear.proofs.SupportForms.{zero_or_positive}
 use Rattle.nz_linear.specs.DualPairs.{Pair, divisor, IsDual, IsDualPair, product, spread_factors}
 use Rattle.nz_linear.proofs.Ring.{sums}
 use Rattle.nz_linear.proofs.Signs.{mul_pos, mul_is_pos, mul_is_nonneg}
@@ -120,3 +121,10 @@ apart_by_form w f vs us v x lv lu lf s c p n i j =
     let up = above_inside w f vs v x lv s c p i in
     let down = nonneg_on_cone g w us x lu (each_map (λ u. dot f u ≤ℤ pos 0) (λ u. pos 0 ≤ℤ dot g u) us (λ u h. omega (arith, ints, value u, h)) n) (inside_in_cone w us x j) in
     omega (arith, ints, up, down, value x)
+
+-- a form that is at least 0 on the vectors and 0 at a vector inside is 0 on all of them
+pub zero_of_inside : (w : ℕ) (f : Vector) (vs : List Vector) (x : Vector) → Each (HasWidth w) vs → Each (λ u. pos 0 ≤ℤ dot f u) vs → IsInside w vs x → dot f x ≡ pos 0 → Each (λ u. dot f u ≡ pos 0) vs
+zero_of_inside w f vs x l s i e = elim (zero_or_positive f vs s) [
+  | inl z ↦ z
+  | inr t ↦ absurd (let p = above_inside w f vs t.vector x l s t.has t.positive i in omega (arith, sums, p, e))
+]

@@ -11,6 +11,7 @@ use Rattle.nz_spec.proofs.VectorLaws.{dot-scaled, dot-zero, int_is_zero}
 use Rattle.nz_spec.proofs.SumLaws.{length-zero_vector}
 use Rattle.std.proofs.lemmas.List.{length-map}
 use Rattle.nz_spec.proofs.EquationLaws.{dot_comm, zero_on_span, zero_outside_keys}
+use Rattle.nz_linear.proofs.ExtremeRays.{same_on_ray}
 use Rattle.nz_linear.proofs.Units.{entry_sum}
 use Rattle.nz_spec.proofs.ListLaws.{Each-contains, Each-from_contains, contains_here, contains_there, contains_cases}
 use Rattle.nz_spec.proofs.LinearLaws.{HasRank-unique}
@@ -274,3 +275,10 @@ on_ray_by_facet w G f y lG s v z = elim (zero_or_positive f G s.at_least) [
 pub extreme_of_support : (w : ℕ) (G : List Vector) (f : Vector) → Each (HasWidth w) G → IsSupportForm w G f → IsExtremeForm w G f
 extreme_of_support w G f lG s y v z = on_ray_by_facet w G f y lG s v
     (each_map2 (Contains G) (λ u. dot f u ≡ pos 0) (λ u. dot y u ≡ pos 0) s.facet.vectors (λ u k e. Each-contains (λ x. dot f x ≡ pos 0 → dot y x ≡ pos 0) G u z k e) s.facet.of_list s.facet.zero_on)
+
+-- two support forms that are 0 on the same independent vectors, one fewer than the rank, are the same
+pub same_support_form : (w : ℕ) (G : List Vector) (f g : Vector) (vs : List Vector) → Each (HasWidth w) G → IsSupportForm w G f → IsSupportForm w G g → Each (Contains G) vs → IsIndependent w vs → HasRank w (Contains G) (suc (length vs))
+    → Each (λ v. dot f v ≡ pos 0) vs → Each (λ v. dot g v ≡ pos 0) vs → f ≡ g
+same_support_form w G f g vs lG s t of_list free rank zf zg =
+    let s' : IsSupportForm w G f = record { width = s.width; primitive = s.primitive; zero_at = s.zero_at; at_least = s.at_least; not_all = s.not_all; facet = record { vectors = vs; of_list = of_list; independent = free; zero_on = zf; rank = rank } } in
+    sym (same_on_ray w g f t.width s.width t.primitive s.primitive (on_ray_by_facet w G f g lG s' (support_is_valid w G g t) zg))
