@@ -41,4 +41,5 @@ pub mod Coordinates
 pub mod GroupCuts
 pub mod DualGroups
 pub mod SimplexCones
+pub mod SystemRays
 pub mod Recipes

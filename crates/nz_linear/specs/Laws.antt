@@ -201,3 +201,7 @@ ExtremeInCoordinates = (w : ℕ) (base rows : List Vector) (c : Vector) → Each
 -- and its lines
 abbrev pub LinesInCoordinates : Type 0
 LinesInCoordinates = (w : ℕ) (base rows : List Vector) (c : Vector) → Each (HasWidth w) base → IsIndependent w base → length c ≡ length base → IsLine (IsInStage (IsInGroup w base) rows) (combination w c base) ↔ IsLine (IsInRows (length base) (map (λ r. in_coordinates base r) rows)) c
+
+-- where the lattice of a system is the group of an independent base, and its rows in coordinates are pointed, its extreme generators are the vectors of the extreme rays in coordinates
+abbrev pub SystemExtremeAreRays : Type 0
+SystemExtremeAreRays = (s : System) (equations rows base rays : List Vector) (x : Vector) → IsSystem s → AreEquationsOf s equations → AreRowsOf s rows → Each (HasWidth s.width) base → IsIndependent s.width base → ((y : Vector) → IsInLattice s equations y ↔ IsInGroup s.width base y) → IsPointed (length base) (map (λ r. in_coordinates base r) rows) → AreExtremeRays (length base) (map (λ r. in_coordinates base r) rows) rays → IsExtreme (IsMember s) x ↔ Contains (map (λ c. combination s.width c base) rays) x

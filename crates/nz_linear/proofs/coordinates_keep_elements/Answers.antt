@@ -4,6 +4,7 @@ use Rattle.nz_spec.specs.Stages.{IsInStage}
 use Rattle.nz_linear.specs.Cones.{IsInRows}
 use Rattle.nz_linear.specs.Coordinates.{in_coordinates}
 use Rattle.nz_linear.proofs.Coordinates.{stage_coordinates, irreducible_forth, irreducible_back, extreme_forth, extreme_back, line_forth, line_back}
+use Rattle.nz_linear.proofs.SystemRays.{system_extreme}
 use Rattle.nz_linear.proofs.coordinates_keep_elements.Goals as goal
 
 pub returns-clause-irreducible : goal.returns-clause-irreducible
@@ -26,3 +27,6 @@ returns-clause-lines c = λ w base rows x l free n.
     let M = IsInStage (IsInGroup w base) rows in
     let C = IsInRows (length base) (map (λ r. in_coordinates base r) rows) in
     ((λ i. line_back w base M C k x n i), (λ i. line_forth w base M C k x i))
+
+pub returns-clause-system : goal.returns-clause-system
+returns-clause-system c = system_extreme
