@@ -4,6 +4,7 @@ use Rattle.std.proofs.Math.IntN.{*ℤ-zero, zero-*ℤ}
 use Rattle.std.specs.List.{AllByRecursion as Each, AllZip, range_with_len}
 use Rattle.nz_spec.specs.Vectors.{Vector, dot, zero_vector, entry, HasWidth}
 use Rattle.nz_spec.specs.Order.{Pairwise}
+use Rattle.nz_spec.proofs.EquationLaws.{entry-scaled}
 use Rattle.nz_linear.specs.DualPairs.{Pair, HasWidths}
 use Rattle.nz_linear.specs.Elimination.{IsCleared, IsPivotStep, shifted, unit_pairs}
 use Rattle.nz_linear.specs.Echelon.{unit_at, IsColumnPair, AreColumnPairs}
@@ -12,7 +13,7 @@ use Rattle.nz_linear.proofs.Ring.{sums, one-mul}
 use Rattle.nz_linear.proofs.Signs.{mul_is_zero}
 use Rattle.nz_linear.proofs.Lists.{each_left, each_right, each_remove}
 use Rattle.nz_linear.proofs.VectorLaws.{length-scaled}
-use Rattle.nz_linear.proofs.Units.{entry-scaled, entry-zero_vector, unit_at-dot}
+use Rattle.nz_linear.proofs.Units.{entry-zero_vector, unit_at-dot}
 use Rattle.nz_linear.proofs.Elimination.{cleared_at_form}
 
 -- ---- the start: all columns
@@ -126,7 +127,7 @@ pivot_columns w h columns chosen free new_chosen new_free l a t n s =
     let wide : Each (HasWidths w) (t.pivot ∷ (t.before ++ t.after)) = each_remove (HasWidths w) t.pivot t.before t.after (subst (Each (HasWidths w)) t.split l) in
     let order : Pairwise ◌<◌ (s.front ++ s.column ∷ s.back) = subst (Pairwise ◌<◌) s.whole a.in_order in
     let lu : HasWidth w t.u = ap length t.turned.same ∙ length-scaled w t.turned.sign t.pivot.vector wide.0.vector_width in
-    let after_u : (k : ℕ) → s.column < k → entry t.u k ≡ pos 0 = λ k m. ap (λ x. entry x k) t.turned.same ∙ entry-scaled w t.turned.sign t.pivot.vector k wide.0.vector_width ∙ ap (λ y. t.turned.sign *ℤ y) (s.of_pivot.after k m) ∙ *ℤ-zero t.turned.sign in
+    let after_u : (k : ℕ) → s.column < k → entry t.u k ≡ pos 0 = λ k m. ap (λ x. entry x k) t.turned.same ∙ entry-scaled t.turned.sign t.pivot.vector k ∙ ap (λ y. t.turned.sign *ℤ y) (s.of_pivot.after k m) ∙ *ℤ-zero t.turned.sign in
     record {
       in_order = order_remove s.front s.column s.back order;
       each = front_columns w h t.u s.front t.before s.back t.after new_free lu (each_left (HasWidths w) t.before t.after wide.1) n s.each_front t.clears_free

@@ -7,8 +7,9 @@ use Rattle.nz_spec.specs.Vectors.{Vector, dot, plus, scaled, zero_vector}
 use Rattle.nz_spec.proofs.VectorLaws.{dot-scaled, dot-zero, plus_comm, plus_assoc, scaled-scaled, scaled-zero}
 use Rattle.nz_spec.proofs.VectorLaws as spec
 use Rattle.nz_spec.proofs.SumLaws.{length-zero_vector}
+use Rattle.nz_spec.proofs.EquationLaws.{dot_comm}
+use Rattle.nz_spec.proofs.PrimitiveLaws.{scaled_cancel}
 use Rattle.nz_linear.proofs.Ring.{sums, one-mul}
-use Rattle.nz_linear.proofs.Signs.{cancel_mul}
 
 pub cons_same : {a b : ℤ} {x y : Vector} → a ≡ b → x ≡ y → (a ∷ x) ≡ (b ∷ y)
 cons_same e r = λ i. e i ∷ r i
@@ -21,12 +22,6 @@ pub length-scaled : (w : ℕ) (k : ℤ) (x : Vector) → length x ≡ w → leng
 length-scaled w k x h = spec.length-scaled k x ∙ h
 
 -- ---- the value is linear in both arguments
-pub dot_comm : (f x : Vector) → dot f x ≡ dot x f
-dot_comm [] [] = refl
-dot_comm [] (b ∷ x) = refl
-dot_comm (a ∷ f) [] = refl
-dot_comm (a ∷ f) (b ∷ x) = omega (arith, sums, *ℤ_comm a b, dot_comm f x)
-
 pub dot-plus : (w : ℕ) (f x y : Vector) → length x ≡ w → length y ≡ w → dot f (plus x y) ≡ dot f x +ℤ dot f y
 dot-plus w f x y h k = spec.dot-plus f x y (h ∙ sym k)
 
@@ -67,7 +62,7 @@ pub cancel_plus : (w : ℕ) (x y z : Vector) → length x ≡ w → length y ≡
 cancel_plus w x y z h k l e = same_values w y z k l (λ f. omega (arith, sums, ap (dot f) e, dot-plus w f x y h k, dot-plus w f x z h l))
 
 pub cancel_scaled : (w : ℕ) (k : ℤ) (x y : Vector) → pos 0 <ℤ k → length x ≡ w → length y ≡ w → scaled k x ≡ scaled k y → x ≡ y
-cancel_scaled w k x y p h l e = same_values w x y h l (λ f. cancel_mul k (dot f x) (dot f y) p (sym (dot-scaled f k x) ∙ ap (dot f) e ∙ dot-scaled f k y))
+cancel_scaled w k x y p h l e = scaled_cancel k (λ z. omega (arith, sums)) x y e
 
 pub scaled_is_zero : (w : ℕ) (k : ℤ) (x : Vector) → pos 0 <ℤ k → length x ≡ w → scaled k x ≡ zero_vector w → x ≡ zero_vector w
 scaled_is_zero w k x p h e = cancel_scaled w k x (zero_vector w) p h (length-zero_vector w) (e ∙ sym (scaled-zero k w))
