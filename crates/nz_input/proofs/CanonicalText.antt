@@ -15,7 +15,8 @@ use Rattle.nz_input.specs.Words.{text_of, amb_space, is_matrix, columns}
 use Rattle.nz_text.proofs.Gaps.{skip-blank, skip-nil}
 use Rattle.nz_input.proofs.Pieces.{spells-solid, spells-some}
 use Rattle.nz_input.proofs.Laying.{Reads, skip-piece, reads-lays}
-use Rattle.nz_input.proofs.Digits.{value-append, all-both}
+use Rattle.nz_input.proofs.Digits.{value-append}
+use Rattle.nz_input.proofs.Each.{all-both}
 use Rattle.nz_input.proofs.Going.{columns-some}
 use Rattle.nz_input.specs.Files.{FileData, ItemData, IsItem, IsFile}
 use Rattle.nz_input.specs.Symbols.{OfItem, OfGoal, IsDigit, IsNumeral, Spells, IsEntry, row_count, entry_symbols, symbols, items_of, goals_of, file_of}

@@ -103,12 +103,12 @@ one-place bytes at other f g r q =
     let same = longest-one [] r.before r.rest q.before q.rest (sym r.whole ∙ q.whole) r.begins r.ends q.begins q.ends in
     sym r.place ∙ ap length same ∙ q.place
 
-record SplitSteps (sit : Sit) (a b : List Symbol) (end : Sit) : Type 0 where
-  mid : Sit
-  front : Steps sit a mid
-  back : Steps mid b end
+pub record SplitSteps (sit : Sit) (a b : List Symbol) (end : Sit) : Type 0 where
+  pub mid : Sit
+  pub front : Steps sit a mid
+  pub back : Steps mid b end
 
-steps-split : (sit : Sit) (a b : List Symbol) (end : Sit) → Steps sit (a ++ b) end → SplitSteps sit a b end
+pub steps-split : (sit : Sit) (a b : List Symbol) (end : Sit) → Steps sit (a ++ b) end → SplitSteps sit a b end
 steps-split sit [] b end h = record { mid = sit; front = refl; back = h }
 steps-split sit (s ∷ a) b end h = let below = steps-split (next sit s) a b end h.1 in record { mid = below.mid; front = (h.0, below.front); back = below.back }
 

@@ -26,7 +26,8 @@ use Rattle.nz_text.proofs.Gaps.{skip-gap, skip-foreign, skip-nil, IsGap-nil}
 use Rattle.nz_input.proofs.Pieces.{spells-solid, spells-some}
 use Rattle.nz_input.proofs.Laying.{Reads, IsReady, covers-split, lays-reads, append-some, reaches-is, same-run, skip-piece, gap-edge, gap-edge-nil}
 use Rattle.nz_input.proofs.Going.{steps-append, columns-some}
-use Rattle.nz_input.proofs.Completing.{plain, plain-dimension, plain-count, plain-number, Behind, IsApart, apart-ready, prefix-gap, prefix-piece, prefix-comment, ends-at, ends-open}
+use Rattle.nz_input.proofs.Completing.{plain-dimension, plain-count, plain-number, Behind, IsApart, apart-ready, prefix-gap, prefix-piece, prefix-comment, ends-at, ends-open}
+use Rattle.nz_input.specs.Endings.{plain}
 use Rattle.nz_input.specs.Files.{FileData, HasRows}
 use Rattle.nz_input.specs.Symbols.{Spells, Entry, OfItem, OfGoal, IsEntry, row_count, entry_symbols, symbols}
 use Rattle.nz_input.specs.Texts.{IsTextOf, Gap}

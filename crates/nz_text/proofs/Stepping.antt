@@ -65,7 +65,7 @@ open-opens [] h = absurd h
 open-opens (a ∷ []) h = rw h refl
 open-opens (a ∷ b ∷ body) h = rw (h.0, h.1) (skip-begin body ∙ open-inside body h.2)
 
-hanging-opens : (comment rest : List ℕ) → IsHanging comment rest → skip Outside (comment ++ rest) ≡ Opens rest
+pub hanging-opens : (comment rest : List ℕ) → IsHanging comment rest → skip Outside (comment ++ rest) ≡ Opens rest
 unfolding skip
 hanging-opens comment [] h = rw append-nil (open-opens comment h)
 hanging-opens comment (b ∷ rest) h = elim (eqb_tells b 42) [
