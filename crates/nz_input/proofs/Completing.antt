@@ -11,7 +11,7 @@ use Rattle.nz_input.specs.declared.symbol.Symbol.TheVariants.{Amb, Dimension, Be
 use Rattle.nz_input.specs.Endings.{IsMissing, plain, spelled_out, closing}
 use Rattle.nz_input.specs.Sit.{AtFirst, AtEntry, AtNumber, wants, at_rows, Steps}
 use Rattle.nz_input.specs.Progress.{Progress, Nothing, Named, Between, Awaiting, Filling, done_of, sit_of, IsSound, after}
-use Rattle.nz_text.proofs.Gaps.{skip-gap, skip-nil, skip-blank, IsGap-nil, IsGap-comment}
+use Rattle.nz_text.proofs.Gaps.{NoClose-nil, skip-gap, skip-nil, skip-blank, IsGap-nil, IsGap-comment}
 use Rattle.nz_input.proofs.Pieces.{spells-solid, spells-some}
 use Rattle.nz_input.proofs.Laying.{Reads, Covers, IsReady, skip-piece, gap-edge, edge-append, covers-read, covers-more, reads-lays, parts-at, regroup}
 use Rattle.nz_input.proofs.Each.{all-both}
@@ -154,13 +154,9 @@ prefix-gap p a gap h g =
 pub prefix-part : (a b : List ℕ) → IsTextPrefix (a ++ b) → IsTextPrefix a
 prefix-part a b h = record { more = b ++ h.more; file = h.file; text = rw (← append_assoc) h.text }
 
-NoClose-empty : NoClose []
-NoClose-empty [] back e = absurd cc
-NoClose-empty (x ∷ front) back e = absurd cc
-
 pub close-gap : (comment : List ℕ) → IsOpenComment comment → IsGap (comment ++ closing comment)
 close-gap [] h = absurd h
-close-gap (a ∷ []) h = rw h (IsGap-comment [] [] NoClose-empty IsGap-nil)
+close-gap (a ∷ []) h = rw h (IsGap-comment [] [] NoClose-nil IsGap-nil)
 close-gap (a ∷ b ∷ body) h = rw (h.0, h.1) (IsGap-comment body [] h.2 IsGap-nil)
 
 pub gap-append : (a b : List ℕ) → IsGap a → IsGap b → IsGap (a ++ b)

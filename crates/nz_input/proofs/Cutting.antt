@@ -6,7 +6,7 @@ use Rattle.nz_text.specs.declared.pieces.Class.TheVariants.{Solid, Foreign}
 use Rattle.nz_text.specs.declared.pieces.Mode.TheVariants.{Outside}
 use Rattle.nz_text.specs.Bytes.{class_of, IsGap, IsOpenComment, IsHanging}
 use Rattle.nz_text.specs.Skip.{Skipped, Reaches, Opens, skip}
-use Rattle.nz_text.proofs.Gaps.{skip-gap, skip-nil, skip-solid, skip-foreign, says-skip, Says, IsPassed}
+use Rattle.nz_text.proofs.Gaps.{skip-gap, skip-solid, skip-foreign, says-skip, Says, IsPassed}
 use Rattle.nz_text.proofs.Stepping.{hanging-opens}
 use Rattle.nz_input.specs.declared.symbol.Symbol.{Symbol}
 use Rattle.nz_input.specs.Symbols.{Spells}
@@ -14,7 +14,8 @@ use Rattle.nz_input.specs.Texts.{Separator, Gap, Break, Parts, Lays}
 use Rattle.nz_input.specs.Refusals.{Precedes, role_of}
 use Rattle.nz_input.specs.Sit.{Sit, Steps}
 use Rattle.nz_input.specs.Progress.{Progress, done_of, sit_of, IsSound, after}
-use Rattle.nz_input.proofs.Laying.{regroup}
+use Rattle.nz_input.proofs.Laying.{regroup, parts-gap}
+use Rattle.nz_input.proofs.Refusing.{skip-whole}
 use Rattle.nz_input.proofs.Going.{goes}
 use Rattle.nz_input.proofs.Keeping.{IsSpelledOut}
 
@@ -27,9 +28,6 @@ pub record OpenAt (t : List ℕ) : Type 0 where
   pub whole : t ≡ front ++ comment
   pub is_gap : IsGap front
   pub is_open : IsOpenComment comment
-
-skip-whole : (gap : List ℕ) → IsGap gap → skip Outside gap ≡ Reaches []
-skip-whole gap g = ap (skip Outside) (sym (append-nil gap)) ∙ skip-gap gap [] g ∙ skip-nil
 
 stops-at : (b : ℕ) (t : List ℕ) → (class_of b ≡ Solid) ⊎ (class_of b ≡ Foreign) → skip Outside (b ∷ t) ≡ Reaches (b ∷ t)
 stops-at b t (inl e) = skip-solid b t e
@@ -80,10 +78,6 @@ add-front before s ss gap piece v t whole parts spells (InOpen done others front
     InOpen (s ∷ done) others (gap ++ (piece ++ front)) comment (ap (λ (x : List Symbol). s ∷ x) e) (whole ∙ rw w (simp append_assoc)) (gap, piece, front, refl, parts, spells, laid) o
 add-front before s ss gap piece v t whole parts spells (InPiece done others q begun y e p n sp) = InPiece (s ∷ done) others q begun y (ap (λ (x : List Symbol). s ∷ x) e) (gap, piece, v, whole, parts, spells, p) n sp
 
-parts-is-gap : (before : Separator) (gap : List ℕ) → Parts before gap → IsGap gap
-parts-is-gap Gap gap h = h
-parts-is-gap Break gap h = h.0
-
 -- in the first gap
 cut-first : (before : Separator) (ss : List Symbol) (t : List ℕ) → IsGap t ⊎ OpenAt t → Cut before ss t
 cut-first before ss t (inl g) = InGap [] ss refl g
@@ -91,13 +85,13 @@ cut-first before ss t (inr o) = InOpen [] ss o.front o.comment refl o.whole o.is
 
 -- in the first piece
 cut-piece : (before : Separator) (s : Symbol) (ss : List Symbol) (gap u y t : List ℕ) → Parts before gap → t ≡ gap ++ u → Spells s (u ++ y) → Cut before (s ∷ ss) t
-cut-piece before s ss gap [] y t parts e spells = InGap [] (s ∷ ss) refl (rw (e, append-nil) (parts-is-gap before gap parts))
+cut-piece before s ss gap [] y t parts e spells = InGap [] (s ∷ ss) refl (rw (e, append-nil) (parts-gap before gap parts))
 cut-piece before s ss gap (b ∷ u) y t parts e spells = InPiece [] ss s (b ∷ u) y refl (gap, parts, e) (λ x. cc) spells
 
 pub cut : (before : Separator) (ss : List Symbol) (t more : List ℕ) → Lays before ss (t ++ more) → Cut before ss t
 cut before [] t more g = cut-first before [] t (cut-gap t more g)
 cut before (s ∷ ss) t more (gap, piece, rest, whole, parts, spells, others) = elim (split-at t more gap (piece ++ rest) whole) [
-  | Within x e ↦ cut-first before (s ∷ ss) t (cut-gap t x (subst IsGap e (parts-is-gap before gap parts)))
+  | Within x e ↦ cut-first before (s ∷ ss) t (cut-gap t x (subst IsGap e (parts-gap before gap parts)))
   | Beyond u e q ↦ elim (split-at u more piece rest q) [
     | Within y w ↦ cut-piece before s ss gap u y t parts e (subst (Spells s) w spells)
     | Beyond v w r ↦ add-front before s ss gap piece v t (rw (e, w) refl) parts spells (cut Break ss v more (subst (Lays Break ss) (sym r) others))

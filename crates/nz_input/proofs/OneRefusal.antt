@@ -14,7 +14,8 @@ use Rattle.nz_text.specs.Skip.{Reaches, Opens, skip}
 use Rattle.nz_input.specs.Sit.{Sit, AtFirst, AtDimension, wants, next, Steps, Accepts}
 use Rattle.nz_text.proofs.Gaps.{skip-gap, skip-nil}
 use Rattle.nz_input.proofs.Pieces.{spells-solid, spells-some, spells-one}
-use Rattle.nz_input.proofs.Laying.{append-some, reaches-is, same-run, skip-piece, gap-edge, lays-edge, edge-append, regroup}
+use Rattle.nz_text.proofs.OneStep.{same-run}
+use Rattle.nz_input.proofs.Laying.{parts-gap, append-some, reaches-is, skip-piece, gap-edge, lays-edge, edge-append, regroup}
 use Rattle.nz_input.proofs.Completing.{prefix-part}
 use Rattle.nz_input.proofs.Refusing.{accepts-symbols}
 use Rattle.nz_input.specs.Symbols.{Spells, symbols}
@@ -56,19 +57,15 @@ reach-solid : (t : List ℕ) → IsSolid t → skip Outside t ≡ Reaches t
 reach-solid [] h = skip-nil
 reach-solid (b ∷ t) h = subst (λ (x : List ℕ). skip Outside x ≡ Reaches x) (append-nil (b ∷ t)) (skip-piece (b ∷ t) [] h (λ e. cc))
 
-parts-is-gap : (before : Separator) (gap : List ℕ) → Parts before gap → IsGap gap
-parts-is-gap Gap gap h = h
-parts-is-gap Break gap h = h.0
-
 after-edge : (ss : List Symbol) (t begun : List ℕ) → Precedes Break ss t begun → IsEdge t × (t ≢ [])
 after-edge [] t begun (gap, parts, whole) = (rw whole (gap-edge gap begun parts.0 parts.1), λ e. append-some gap begun parts.1 (sym whole ∙ e))
 after-edge (s ∷ ss) t begun (gap, piece, rest, whole, parts, spells, others) = (rw whole (gap-edge gap (piece ++ rest) parts.0 parts.1), λ e. append-some gap (piece ++ rest) parts.1 (sym whole ∙ e))
 
 chain : (before : Separator) (ss : List Symbol) (t begun : List ℕ) → IsSolid begun → Precedes before ss t begun → Chain ss t begun
-chain before [] t begun solid (gap, parts, whole) = rw whole (skip-gap gap begun (parts-is-gap before gap parts) ∙ reach-solid begun solid)
+chain before [] t begun solid (gap, parts, whole) = rw whole (skip-gap gap begun (parts-gap before gap parts) ∙ reach-solid begun solid)
 chain before (s ∷ ss) t begun solid (gap, piece, rest, whole, parts, spells, others) =
     let edge = after-edge ss rest begun others in
-    (piece, rest, rw whole (skip-gap gap (piece ++ rest) (parts-is-gap before gap parts) ∙ skip-piece piece rest (spells-solid s piece spells) (spells-some s piece spells)), spells, edge.0, edge.1, chain Break ss rest begun solid others)
+    (piece, rest, rw whole (skip-gap gap (piece ++ rest) (parts-gap before gap parts) ∙ skip-piece piece rest (spells-solid s piece spells) (spells-some s piece spells)), spells, edge.0, edge.1, chain Break ss rest begun solid others)
 
 -- a solid end of what has an edge is empty
 solid-back : (a b : List ℕ) → IsSolid (a ++ b) → IsSolid b
@@ -164,7 +161,7 @@ laid-open before [] front comment g h = skip-gap front comment g ∙ open-opens 
 laid-open before (s ∷ ss) front comment (gap, piece, rest, whole, parts, spells, others) h = (
   piece,
   rest ++ comment,
-  rw (whole, regroup) (skip-gap gap (piece ++ (rest ++ comment)) (parts-is-gap before gap parts) ∙ skip-piece piece (rest ++ comment) (spells-solid s piece spells) (spells-some s piece spells)),
+  rw (whole, regroup) (skip-gap gap (piece ++ (rest ++ comment)) (parts-gap before gap parts) ∙ skip-piece piece (rest ++ comment) (spells-solid s piece spells) (spells-some s piece spells)),
   spells,
   edge-append rest comment (lays-edge ss rest others) (open-edge comment h),
   laid-open Break ss rest comment others h,
