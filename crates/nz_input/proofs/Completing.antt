@@ -1,13 +1,13 @@
 -- Each prefix becomes a text.
-use Rattle.std.proofs.Common.{◌≡◌, ◌≢◌, ℕ, zero, suc, ◌-◌, Bool, true, false, List, [], ◌∷◌, ◌++◌, length, refl, sym, subst, ◌∙◌, append_assoc, arith, inl, inr, ◌⊎◌}
+use Rattle.std.proofs.Common.{◌≡◌, ◌≢◌, ℕ, zero, suc, ◌-◌, List, [], ◌∷◌, ◌++◌, length, refl, sym, subst, ◌∙◌, append_assoc, arith, inl, inr, ◌⊎◌}
 use Rattle.std.specs.Prelude.{pos}
-use Rattle.std.specs.List.{flat_map, AllByRecursion}
+use Rattle.std.specs.List.{AllByRecursion}
 use Rattle.std.proofs.lemmas.List.{append-nil}
 use Rattle.std.proofs.lemmas.List.Concat.{flat_map-append}
-use Rattle.nz_text.specs.Bytes.{NoClose, IsGap, IsSolid, IsEdge, IsOpenComment, IsPart, part_bytes}
-use Rattle.nz_input.specs.Words.{columns, text_of, amb_space}
+use Rattle.nz_text.specs.Bytes.{IsGap, IsSolid, IsEdge, IsOpenComment, IsPart, part_bytes}
+use Rattle.nz_input.specs.Words.{columns, amb_space}
 use Rattle.nz_input.specs.declared.symbol.Symbol.{Symbol}
-use Rattle.nz_input.specs.declared.symbol.Symbol.TheVariants.{Amb, Dimension, Begin, Count, Number}
+use Rattle.nz_input.specs.declared.symbol.Symbol.TheVariants.{Amb, Dimension, Count, Number}
 use Rattle.nz_input.specs.Endings.{IsMissing, plain, spelled_out, closing}
 use Rattle.nz_input.specs.Sit.{AtFirst, AtEntry, AtNumber, wants, at_rows, Steps}
 use Rattle.nz_input.specs.Progress.{Progress, Nothing, Named, Between, Awaiting, Filling, done_of, sit_of, IsSound, after}

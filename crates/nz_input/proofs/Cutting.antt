@@ -4,17 +4,17 @@ use Rattle.std.specs.List.{AllByRecursion}
 use Rattle.std.proofs.lemmas.List.{append-nil}
 use Rattle.nz_text.specs.declared.pieces.Class.TheVariants.{Solid, Foreign}
 use Rattle.nz_text.specs.declared.pieces.Mode.TheVariants.{Outside}
-use Rattle.nz_text.specs.Bytes.{class_of, IsGap, IsOpenComment, IsHanging}
+use Rattle.nz_text.specs.Bytes.{class_of, IsGap, IsOpenComment}
 use Rattle.nz_text.specs.Skip.{Skipped, Reaches, Opens, skip}
-use Rattle.nz_text.proofs.Gaps.{skip-gap, skip-solid, skip-foreign, says-skip, Says, IsPassed}
+use Rattle.nz_text.proofs.Gaps.{skip-gap, skip-solid, skip-foreign, says-skip, Says}
 use Rattle.nz_text.proofs.Stepping.{hanging-opens}
 use Rattle.nz_input.specs.declared.symbol.Symbol.{Symbol}
 use Rattle.nz_input.specs.Symbols.{Spells}
-use Rattle.nz_input.specs.Texts.{Separator, Gap, Break, Parts, Lays}
-use Rattle.nz_input.specs.Refusals.{Precedes, role_of}
+use Rattle.nz_input.specs.Texts.{Separator, Break, Parts, Lays}
+use Rattle.nz_input.specs.Refusals.{Precedes}
 use Rattle.nz_input.specs.Sit.{Sit, Steps}
 use Rattle.nz_input.specs.Progress.{Progress, done_of, sit_of, IsSound, after}
-use Rattle.nz_input.proofs.Laying.{regroup, parts-gap}
+use Rattle.nz_input.proofs.Laying.{parts-gap}
 use Rattle.nz_input.proofs.Refusing.{skip-whole}
 use Rattle.nz_input.proofs.Going.{goes}
 use Rattle.nz_input.proofs.Keeping.{IsSpelledOut}

@@ -12,16 +12,16 @@ use Rattle.nz_input.specs.Texts.{Separator, Gap, Break, Parts, Lays, IsTextOf}
 use Rattle.nz_input.specs.Refusals.{role_of, Precedes, IsTextPrefix}
 use Rattle.nz_input.specs.Endings.{IsMissing, plain, spelled_out, closing, completion, IsLacking, Whole, Open, Begun, IsEnding}
 use Rattle.nz_input.specs.Sit.{Sit, AtFirst, wants, Steps}
-use Rattle.nz_input.specs.Progress.{Nothing, done_of, sit_of, after}
+use Rattle.nz_input.specs.Progress.{Nothing, after}
 use Rattle.nz_input.proofs.Each.{all-front}
 use Rattle.nz_input.proofs.Laying.{regroup}
 use Rattle.nz_input.proofs.Going.{goes}
 use Rattle.nz_input.proofs.Completing.{IsPlain, plain-dimension, plain-count, plain-number, completed, gap-append, close-gap}
 use Rattle.nz_input.proofs.Refusing.{accepts-symbols}
 use Rattle.nz_input.proofs.Keeping.{IsSpelledOut, lays-spelled}
-use Rattle.nz_input.proofs.OneRefusal.{SplitSteps, steps-split}
-use Rattle.nz_input.proofs.Cutting.{Cut, InGap, InOpen, InPiece, cut, Walked, walk}
-use Rattle.nz_input.proofs.Finishing.{Finished, finish}
+use Rattle.nz_input.proofs.OneRefusal.{steps-split}
+use Rattle.nz_input.proofs.Cutting.{InGap, InOpen, InPiece, cut, Walked, walk}
+use Rattle.nz_input.proofs.Finishing.{finish}
 
 -- ---- with an ending a prefix is a text
 

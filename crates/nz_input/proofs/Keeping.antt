@@ -1,11 +1,10 @@
 -- What a text is a text of keeps what each file keeps.
-use Rattle.std.proofs.Common.{◌≡◌, ℕ, zero, suc, ◌^◌, ◌≤◌, Bool, true, false, List, [], ◌∷◌, ◌++◌, length, map, sym, subst, arith, inl, inr}
-use Rattle.std.specs.Prelude.{ℤ, pos, negsuc, neg_ℤ, nat_abs}
+use Rattle.std.proofs.Common.{ℕ, zero, suc, ◌^◌, ◌≤◌, Bool, true, false, List, [], ◌∷◌, ◌++◌, length, map, sym, subst, arith, inl, inr}
+use Rattle.std.specs.Prelude.{ℤ, pos, neg_ℤ, nat_abs}
 use Rattle.std.specs.List.{flat_map, AllByRecursion}
-use Rattle.nz_input.specs.declared.kind.Kind.{Kind}
 use Rattle.nz_input.specs.declared.symbol.Symbol.{Symbol}
 use Rattle.nz_input.specs.declared.symbol.Symbol.TheVariants.{Number}
-use Rattle.nz_input.specs.Words.{is_matrix, columns}
+use Rattle.nz_input.specs.Words.{is_matrix}
 use Rattle.nz_input.specs.Files.{FileData, HasRows, IsBounded, IsItem, IsFile}
 use Rattle.nz_input.specs.Symbols.{Spells, IsNumber, Entry, OfItem, OfGoal, IsEntry, entry_symbols, row_count, symbols, items_of}
 use Rattle.nz_input.specs.Texts.{Separator, Gap, Break, Lays, IsTextOf}

@@ -1,5 +1,5 @@
 -- A text is a text of one file.
-use Rattle.std.proofs.Common.{◌≡◌, ℕ, true, ◌≤◌, List, [], ◌∷◌, refl, sym, ap, subst, ◌∙◌}
+use Rattle.std.proofs.Common.{◌≡◌, ℕ, ◌≤◌, List, [], ◌∷◌, refl, sym, ap, subst, ◌∙◌}
 use Rattle.nz_input.specs.declared.symbol.Symbol.{Symbol}
 use Rattle.nz_input.specs.Sit.{Sit, AtFirst, next, Steps, Accepts}
 use Rattle.nz_input.proofs.Pieces.{spells-solid, spells-some, spells-one}

@@ -1,25 +1,22 @@
 -- A place and a fault are the only ones.
-use Rattle.std.proofs.Common.{◌≡◌, ◌≢◌, ℕ, suc, ◌≤◌, Bool, true, false, List, [], ◌∷◌, ◌++◌, length, refl, sym, ap, subst, ◌∙◌, append_assoc, arith, inl, inr, ◌⊎◌, Option}
-use Rattle.std.specs.List.{AllByRecursion}
+use Rattle.std.proofs.Common.{◌≡◌, ◌≢◌, ℕ, ◌≤◌, List, [], ◌∷◌, ◌++◌, length, refl, sym, ap, subst, ◌∙◌, append_assoc, Option}
 use Rattle.std.proofs.lemmas.List.{append-nil, append_cancel_left}
 use Rattle.nz_input.specs.declared.refusal.Fault.{Fault}
-use Rattle.nz_text.specs.declared.pieces.Class.TheVariants.{Solid}
 use Rattle.nz_text.specs.declared.pieces.Mode.TheVariants.{Outside}
 use Rattle.nz_input.specs.declared.symbol.Role.{Role}
-use Rattle.nz_input.specs.declared.symbol.Role.TheVariants.{First, Dimensional}
 use Rattle.nz_input.specs.declared.symbol.Symbol.{Symbol}
-use Rattle.nz_input.specs.declared.symbol.Symbol.TheVariants.{Amb, Dimension, Begin, Count, Number}
-use Rattle.nz_text.specs.Bytes.{class_of, IsGap, IsSolid, IsEdge, IsOpenComment}
+use Rattle.nz_input.specs.declared.symbol.Symbol.TheVariants.{Amb, Dimension}
+use Rattle.nz_text.specs.Bytes.{IsSolid, IsEdge, IsOpenComment}
 use Rattle.nz_text.specs.Skip.{Reaches, Opens, skip}
-use Rattle.nz_input.specs.Sit.{Sit, AtFirst, AtDimension, wants, next, Steps, Accepts}
+use Rattle.nz_input.specs.Sit.{Sit, AtFirst, AtDimension, wants, next, Steps}
 use Rattle.nz_text.proofs.Gaps.{skip-gap, skip-nil}
 use Rattle.nz_input.proofs.Pieces.{spells-solid, spells-some, spells-one}
 use Rattle.nz_text.proofs.OneStep.{same-run}
 use Rattle.nz_input.proofs.Laying.{parts-gap, append-some, reaches-is, skip-piece, gap-edge, lays-edge, edge-append, regroup}
 use Rattle.nz_input.proofs.Completing.{prefix-part}
 use Rattle.nz_input.proofs.Refusing.{accepts-symbols}
-use Rattle.nz_input.specs.Symbols.{Spells, symbols}
-use Rattle.nz_input.specs.Texts.{Parts, Lays, Separator, Gap, Break}
+use Rattle.nz_input.specs.Symbols.{Spells}
+use Rattle.nz_input.specs.Texts.{Lays, Separator, Gap, Break}
 use Rattle.nz_input.specs.Refusals.{IsTextPrefix, role_of, IsNext, Precedes, Ends, IsRefused, EndsAt, AtPiece, InComment, Site, IsRefusedAt, fault_at}
 use Rattle.nz_input.specs.Prefixes.{first_of}
 use Rattle.nz_text.specs.Places.{line_at, column_at}

@@ -16,7 +16,7 @@ use Rattle.nz_vec.specs.Texts.{Text}
 use Rattle.nz_text.specs.Places.{line_at, column_at}
 use Rattle.nz_input.specs.declared.refusal.ReadRefusal.{ReadRefusal}
 use Rattle.nz_input.specs.declared.refusal.ReadRefusal.TheVariants as refusal
-use Rattle.nz_input.specs.Texts.{Separator, Gap, Break, behind, Parts, Lays, IsTextOf}
+use Rattle.nz_input.specs.Texts.{Separator, Gap, behind, Parts, Lays, IsTextOf}
 use Rattle.nz_input.specs.Prefixes.{IsPrefixIn, EndsIn, IsRefusedIn}
 
 -- what sort of symbol it is

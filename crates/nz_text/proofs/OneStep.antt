@@ -1,6 +1,6 @@
 -- What stands behind a place is one thing.
-use Rattle.std.proofs.Common.{◌≡◌, ◌≢◌, ℕ, suc, ◌+◌, ◌-◌, ◌<◌, ◌≤◌, List, [], ◌∷◌, ◌++◌, length, take, drop, get_or, refl, sym, ap, subst, ◌∙◌, arith}
-use Rattle.std.proofs.lemmas.List.{length-drop, length-take, take-append-drop, drop-drop}
+use Rattle.std.proofs.Common.{◌≡◌, ℕ, suc, ◌+◌, ◌-◌, ◌<◌, ◌≤◌, List, [], ◌∷◌, ◌++◌, length, take, drop, get_or, refl, sym, ap, subst, ◌∙◌, arith}
+use Rattle.std.proofs.lemmas.List.{length-drop, take-append-drop, drop-drop}
 use Rattle.std.proofs.Math.Seq.{drop-cons}
 use Rattle.nz_text.specs.declared.pieces.Class.TheVariants.{Solid, Foreign}
 use Rattle.nz_text.specs.declared.pieces.Mode.TheVariants.{Outside}

@@ -1,5 +1,5 @@
 -- How a reader passes over a gap.
-use Rattle.std.specs.Prelude.{◌≡◌, ℕ, ◌==◌, ◌-◌, ◌≤◌, ◌<◌, if◌then◌else◌, List, [], ◌∷◌, ◌++◌, length, take, drop, slice_index}
+use Rattle.std.specs.Prelude.{◌≡◌, ℕ, ◌==◌, ◌-◌, ◌≤◌, ◌<◌, if◌then◌else◌, List, [], ◌∷◌, length, take, drop, slice_index}
 use Rattle.nz_text.specs.declared.pieces.Mode.{Mode}
 use Rattle.nz_text.specs.declared.pieces.Mode.TheVariants.{Outside, Opening, Inside, Closing}
 use Rattle.nz_text.specs.declared.pieces.Move.{Move}
