@@ -28,138 +28,124 @@ pub enum State {
     },
 }
 
-/// What has been read.
+/// The whole entries of a file.
 #[derive(Drop)]
-pub struct Reader {
+pub struct Entries {
     pub amb: u32,
     pub items: Items,
     pub goals: Goals,
+}
+
+/// What has been read.
+#[derive(Drop)]
+pub struct Reader {
+    pub entries: Entries,
     pub state: State,
 }
 
+/// Behind whole rows: the item is whole, or another row must come.
 fn put_rows(
     alloc: Global,
-    amb: u32,
-    mut items: Items,
-    goals: Goals,
+    mut entries: Entries,
     kind: Kind,
     count: usize,
     rows: Rows<i64>,
 ) -> Result<Reader, NoMemory>
-    ensures { (es : List Entry) → items ≡ items_of es → goals ≡ goals_of es → IfOk result (λ r. Shows r (with_rows amb es kind count rows)) }
+    ensures { (es : List Entry) → Keeps entries.amb es entries.amb entries.items entries.goals → IfOk result (λ r. Shows r (with_rows entries.amb es kind count rows)) }
 {
     if rows.len() == count {
-        items.push(Item { kind, rows })?;
+        entries.items.push(Item { kind, rows })?;
         return Ok(Reader {
-            amb,
-            items,
-            goals,
+            entries,
             state: State::Entry,
         });
     }
-    Ok(Reader {
-        amb,
-        items,
-        goals,
-        state: State::Rows {
-            kind,
-            count,
-            rows,
-            row: Vec::new(alloc),
-        },
-    })
+    let state = State::Rows {
+        kind,
+        count,
+        rows,
+        row: Vec::new(alloc),
+    };
+    Ok(Reader { entries, state })
 }
 
+/// Behind a row, which may be whole.
 fn put_row(
     alloc: Global,
-    amb: u32,
-    items: Items,
-    goals: Goals,
+    entries: Entries,
     kind: Kind,
     count: usize,
     mut rows: Rows<i64>,
     row: Vec<i64>,
 ) -> Result<Reader, NoMemory>
-    ensures { (es : List Entry) → items ≡ items_of es → goals ≡ goals_of es → IfOk result (λ r. Shows r (with_row amb es kind count rows row.items)) }
+    ensures { (es : List Entry) → Keeps entries.amb es entries.amb entries.items entries.goals → IfOk result (λ r. Shows r (with_row entries.amb es kind count rows row.items)) }
 {
-    if row.len() == kind.columns(amb) {
+    if row.len() == kind.columns(entries.amb) {
         rows.push(Row::from_vec(row))?;
-        return put_rows(alloc, amb, items, goals, kind, count, rows);
+        return put_rows(alloc, entries, kind, count, rows);
     }
-    Ok(Reader {
-        amb,
-        items,
-        goals,
-        state: State::Rows {
-            kind,
-            count,
-            rows,
-            row,
-        },
-    })
+    let state = State::Rows {
+        kind,
+        count,
+        rows,
+        row,
+    };
+    Ok(Reader { entries, state })
 }
 
-fn put_word(
-    alloc: Global,
-    amb: u32,
-    items: Items,
-    mut goals: Goals,
-    word: Word,
-) -> Result<Reader, NoMemory>
-    ensures { (es : List Entry) → Keeps amb es amb (items) goals → IfOk result (λ r. Shows r (with_word amb es word)) }
-{
-    match word {
-        Word::GoalWord(goal) => {
-            goals.push(goal)?;
-            Ok(Reader {
-                amb,
-                items,
-                goals,
-                state: State::Entry,
-            })
-        }
-        Word::Keyword(kind) => {
-            if kind.is_matrix() {
-                return Ok(Reader {
-                    amb,
-                    items,
-                    goals,
-                    state: State::Count(kind),
-                });
-            }
-            put_rows(alloc, amb, items, goals, kind, 1, Rows::new(alloc))
-        }
-    }
-}
-
+/// Behind a number.
 fn put_number(
     alloc: Global,
-    amb: u32,
-    items: Items,
-    goals: Goals,
+    entries: Entries,
     kind: Kind,
     count: usize,
     rows: Rows<i64>,
     mut row: Vec<i64>,
     number: i64,
 ) -> Result<Reader, NoMemory>
-    ensures { (es : List Entry) → Keeps amb es amb (items) goals → IfOk result (λ r. Shows r (with_row amb es kind count rows (row.items ++ number ∷ []))) }
+    ensures { (es : List Entry) → Keeps entries.amb es entries.amb entries.items entries.goals → IfOk result (λ r. Shows r (with_row entries.amb es kind count rows (row.items ++ number ∷ []))) }
 {
     match row.push(number) {
-        Ok(()) => {}
-        Err(_) => return Err(NoMemory),
+        Ok(()) => put_row(alloc, entries, kind, count, rows, row),
+        Err(_) => Err(NoMemory),
     }
-    put_row(alloc, amb, items, goals, kind, count, rows, row)
+}
+
+/// Behind the word of an entry.
+fn put_word(alloc: Global, mut entries: Entries, word: Word) -> Result<Reader, NoMemory>
+    ensures { (es : List Entry) → Keeps entries.amb es entries.amb entries.items entries.goals → IfOk result (λ r. Shows r (with_word entries.amb es word)) }
+{
+    match word {
+        Word::GoalWord(goal) => {
+            entries.goals.push(goal)?;
+            Ok(Reader {
+                entries,
+                state: State::Entry,
+            })
+        }
+        Word::Keyword(kind) => {
+            if kind.is_matrix() {
+                return Ok(Reader {
+                    entries,
+                    state: State::Count(kind),
+                });
+            }
+            put_rows(alloc, entries, kind, 1, Rows::new(alloc))
+        }
+    }
 }
 
 impl Reader {
     pub fn new(alloc: Global) -> Reader
         ensures { Shows result Nothing }
     {
-        Reader {
+        let entries = Entries {
             amb: 0,
             items: Items::new(alloc),
             goals: Goals::new(alloc),
+        };
+        Reader {
+            entries,
             state: State::First,
         }
     }
@@ -177,60 +163,41 @@ impl Reader {
         }
     }
 
-    /// The reader behind one symbol more, of the role that is wanted.
+    /// The reader behind one symbol more. A symbol of another role than the one that is wanted never comes.
     pub fn take(self, alloc: Global, symbol: Symbol) -> Result<Reader, NoMemory>
         ensures { (p : Progress) → Shows self p → IsSound p → role_of symbol ≡ wants (sit_of p) → IfOk result (λ r. Shows r (after p symbol)) }
     {
-        let Reader {
-            amb,
-            items,
-            goals,
-            state,
-        } = self;
+        let Reader { entries, state } = self;
         match state {
             State::First => Ok(Reader {
-                amb,
-                items,
-                goals,
+                entries,
                 state: State::Dimension,
             }),
             State::Dimension => match symbol {
-                Symbol::Dimension(d) => Ok(Reader {
-                    amb: d,
-                    items,
-                    goals,
-                    state: State::Entry,
-                }),
+                Symbol::Dimension(amb) => {
+                    let Entries { items, goals, .. } = entries;
+                    let entries = Entries { amb, items, goals };
+                    Ok(Reader {
+                        entries,
+                        state: State::Entry,
+                    })
+                }
                 _ => Ok(Reader {
-                    amb,
-                    items,
-                    goals,
+                    entries,
                     state: State::First,
                 }),
             },
             State::Entry => match symbol {
-                Symbol::Begin(word) => put_word(alloc, amb, items, goals, word),
+                Symbol::Begin(word) => put_word(alloc, entries, word),
                 _ => Ok(Reader {
-                    amb,
-                    items,
-                    goals,
+                    entries,
                     state: State::First,
                 }),
             },
             State::Count(kind) => match symbol {
-                Symbol::Count(n) => put_rows(
-                    alloc,
-                    amb,
-                    items,
-                    goals,
-                    kind,
-                    n as usize,
-                    Rows::new(alloc),
-                ),
+                Symbol::Count(n) => put_rows(alloc, entries, kind, n as usize, Rows::new(alloc)),
                 _ => Ok(Reader {
-                    amb,
-                    items,
-                    goals,
+                    entries,
                     state: State::First,
                 }),
             },
@@ -240,13 +207,9 @@ impl Reader {
                 rows,
                 row,
             } => match symbol {
-                Symbol::Number(z) => put_number(
-                    alloc, amb, items, goals, kind, count, rows, row, z,
-                ),
+                Symbol::Number(z) => put_number(alloc, entries, kind, count, rows, row, z),
                 _ => Ok(Reader {
-                    amb,
-                    items,
-                    goals,
+                    entries,
                     state: State::First,
                 }),
             },
