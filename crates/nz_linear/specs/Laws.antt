@@ -1,6 +1,6 @@
 -- The theorems on rows, rays, elimination and forms that the engines rest on.
 use Rattle.std.specs.Prelude.{◌≡◌, ◌≢◌, ◌↔◌, ◌⊎◌, ℕ, ◌+◌, ◌<◌, List, [], ◌∷◌, ◌++◌, length, map, ℤ, pos, ◌*ℤ◌, ◌<ℤ◌, Contains, ◌≤ℤ◌, neg_ℤ}
-use Rattle.std.specs.List.{AllByRecursion as Each, AllZip}
+use Rattle.std.specs.List.{AllByRecursion as Each, AllZip, range_with_len}
 use Rattle.nz_spec.specs.Vectors.{Vector, dot, minus, combination, HasWidth, IsNonzero, IsPrimitive, plus, scaled, IsMultipleOf}
 use Rattle.nz_spec.specs.Sums.{IsInCone, IsInSpan, IsInGroup, IsInBox, IsIndependent, HasRank, IsInside}
 use Rattle.nz_spec.specs.Order.{Pairwise, IsListOf}
@@ -54,6 +54,14 @@ RankIsChosen = (w : ℕ) (seen : List Vector) (chosen free : List Pair) → Each
 -- the rows span the vectors at which all the vectors left are 0
 abbrev pub SpanIsWhereZero : Type 0
 SpanIsWhereZero = (w : ℕ) (seen : List Vector) (chosen free : List Pair) (x : Vector) → Each (HasWidth w) seen → HasWidth w x → IsState w seen chosen free → IsInSpan w seen x ↔ Each (λ p. dot x p.vector ≡ pos 0) free
+
+-- before any row all columns are left
+abbrev pub StartHasColumns : Type 0
+StartHasColumns = (w : ℕ) → AreColumnPairs w (range_with_len 0 w) (unit_pairs w)
+
+-- a pivot step at the first vector at which the row is not 0 leaves out its column
+abbrev pub PivotLeavesColumns : Type 0
+PivotLeavesColumns = (w : ℕ) (h : Vector) (front : List ℕ) (c : ℕ) (back : List ℕ) (chosen free chosen' free' : List Pair) → Each (HasWidths w) free → AreColumnPairs w (front ++ c ∷ back) free → (t : IsPivotStep w h chosen free chosen' free') → Each (λ p. dot h p.vector ≡ pos 0) t.before → length front ≡ length t.before → AreColumnPairs w (front ++ back) free'
 
 -- the columns of the vectors left are those that are no key column
 abbrev pub ColumnsAreOther : Type 0
