@@ -5,7 +5,7 @@ use Rattle.nz_spec.specs.Vectors.{Vector, dot, minus, combination, HasWidth, IsN
 use Rattle.nz_spec.specs.Sums.{IsInCone, IsInSpan, IsInGroup, IsInBox, IsIndependent, HasRank, IsInside}
 use Rattle.nz_spec.specs.Order.{Pairwise, IsListOf}
 use Rattle.nz_spec.specs.Boxes.{IsFloor}
-use Rattle.nz_spec.specs.Monoids.{IsLine, IsPositive, IsIrreducible, IsExtreme}
+use Rattle.nz_spec.specs.Monoids.{IsLine, IsPositive, IsIrreducible, IsExtreme, IsExtremeRay}
 use Rattle.nz_spec.specs.Forms.{IsOtherColumn, AreEquations, IsDualForm, AreDualForms, IsSupportForm, AreSupportForms, IsNeeded}
 use Rattle.nz_spec.specs.Systems.{System, IsSystem, IsMember}
 use Rattle.nz_spec.specs.Constraints.{AreEquationsOf, AreRowsOf}
@@ -113,7 +113,11 @@ RayStepKeeps = (w : ℕ) (h : Vector) (rows rays cut : List Vector) → HasWidth
 abbrev pub NoRayTwice : Type 0
 NoRayTwice = (w : ℕ) (h : Vector) (rows rays kept : List Vector) (pairs : List RayPair) (new : List Vector) → Each (HasWidth w) rays → Each (Satisfies rows) rays → Pairwise ◌≢◌ kept → Each (Contains rays) kept → Each (IsAdjacentPair h rows rays) pairs → Pairwise ◌≢◌ pairs → AllZip (λ (q : RayPair) x. IsPrimitiveOf (meet h q.above q.below) x) pairs new → Pairwise ◌≢◌ (kept ++ new)
 
--- the list of extreme rays has just the extreme generators of the whole vectors of the cone
+-- the list of extreme rays has just the primitive extreme rays of the cone
+abbrev pub RaysAreRays : Type 0
+RaysAreRays = (w : ℕ) (rows rays : List Vector) (x : Vector) → IsPointed w rows → AreExtremeRays w rows rays → Contains rays x ↔ IsExtremeRay (IsInRows w rows) x
+
+-- and just the extreme generators of the whole vectors of the cone
 abbrev pub RaysAreExtreme : Type 0
 RaysAreExtreme = (w : ℕ) (rows rays : List Vector) (x : Vector) → IsPointed w rows → AreExtremeRays w rows rays → Contains rays x ↔ IsExtreme (IsInRows w rows) x
 
