@@ -31,7 +31,7 @@ factors_have P keep (p ∷ ps) x d h = (keep (product ps) (dot p.form x) (produc
     scale (c ∷ cs) k = (keep (divisor p) c d.0 k.0, scale cs k.1)
 
 -- a vector of the span whose values have such a property is a sum of the vectors with factors that have it
-sum_by_forms : (w : ℕ) (P : ℤ → Type 0) → ((k a : ℤ) → pos 0 <ℤ k → P a → P (k *ℤ a)) → (ps : List Pair) (x : Vector) → IsDualPair w ps → HasWidth w x → IsInSpan w (map (λ p. p.vector) ps) x → Each (λ p. P (dot p.form x)) ps
+pub sum_by_forms : (w : ℕ) (P : ℤ → Type 0) → ((k a : ℤ) → pos 0 <ℤ k → P a → P (k *ℤ a)) → (ps : List Pair) (x : Vector) → IsDualPair w ps → HasWidth w x → IsInSpan w (map (λ p. p.vector) ps) x → Each (λ p. P (dot p.form x)) ps
     → IsSumOf (λ k c. P c) w (map (λ p. p.vector) ps) x
 sum_by_forms w P keep ps x d l i h = record {
   multiple = product ps;

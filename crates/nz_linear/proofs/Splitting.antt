@@ -158,13 +158,19 @@ ray_of_extreme w rows x r =
       ]
     ]
 
--- the list of the extreme rays of a pointed cone is that of its extreme generators
-pub listed_is_extreme : (w : ℕ) (rows rays : List Vector) (x : Vector) → IsPointed w rows → AreExtremeRays w rows rays → Contains rays x → IsExtreme (IsInRows w rows) x
-listed_is_extreme w rows rays x pt r c =
+-- the list of the extreme rays has just the primitive extreme rays
+pub listed_is_ray : (w : ℕ) (rows rays : List Vector) (x : Vector) → AreExtremeRays w rows rays → Contains rays x → IsExtremeRay (IsInRows w rows) x
+listed_is_ray w rows rays x r c =
     let d = r.description in
-    extreme_of_ray w rows x pt (extreme_ray_of_zeros w rows x (Each-contains (HasWidth w) rays x d.ray_widths c) (Each-contains (Satisfies rows) rays x d.sound c) (Each-contains IsPrimitive rays x r.primitive c) (Each-contains (IsExtremeByZeros w rows) rays x r.extreme c))
+    extreme_ray_of_zeros w rows x (Each-contains (HasWidth w) rays x d.ray_widths c) (Each-contains (Satisfies rows) rays x d.sound c) (Each-contains IsPrimitive rays x r.primitive c) (Each-contains (IsExtremeByZeros w rows) rays x r.extreme c)
+
+pub ray_is_listed : (w : ℕ) (rows rays : List Vector) (x : Vector) → IsPointed w rows → AreExtremeRays w rows rays → IsExtremeRay (IsInRows w rows) x → Contains rays x
+ray_is_listed w rows rays x pt r y =
+    each_extreme_listed w rows rays x r y.member.0 y.member.1 y.primitive (zeros_of_splits w rows x pt y.member.0 y.member.1 (primitive_nonzero x y.primitive) y.splits_along)
+
+-- and just the extreme generators of the whole vectors of the cone
+pub listed_is_extreme : (w : ℕ) (rows rays : List Vector) (x : Vector) → IsPointed w rows → AreExtremeRays w rows rays → Contains rays x → IsExtreme (IsInRows w rows) x
+listed_is_extreme w rows rays x pt r c = extreme_of_ray w rows x pt (listed_is_ray w rows rays x r c)
 
 pub extreme_is_listed : (w : ℕ) (rows rays : List Vector) (x : Vector) → IsPointed w rows → AreExtremeRays w rows rays → IsExtreme (IsInRows w rows) x → Contains rays x
-extreme_is_listed w rows rays x pt r e =
-    let y = ray_of_extreme w rows x e in
-    each_extreme_listed w rows rays x r y.member.0 y.member.1 y.primitive (zeros_of_splits w rows x pt y.member.0 y.member.1 (primitive_nonzero x y.primitive) y.splits_along)
+extreme_is_listed w rows rays x pt r e = ray_is_listed w rows rays x pt r (ray_of_extreme w rows x e)

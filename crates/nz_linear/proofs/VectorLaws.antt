@@ -2,7 +2,7 @@
 -- The width is the first argument of each law that needs one, so that `simp` can be given `dot-plus w` and finds the rest; laws without a width are those of nz_spec.
 use Rattle.std.proofs.Common.{◌≡◌, ℕ, zero, suc, [], ◌∷◌, length, ℤ, pos, negsuc, ◌+ℤ◌, ◌*ℤ◌, ◌<ℤ◌, refl, sym, ap, ◌∙◌, arith}
 use Rattle.std.proofs.lemmas.Int.{ints}
-use Rattle.std.proofs.Math.IntN.{zero-*ℤ, *ℤ_comm}
+use Rattle.std.proofs.Math.IntN.{zero-*ℤ}
 use Rattle.nz_spec.specs.Vectors.{Vector, dot, plus, scaled, zero_vector}
 use Rattle.nz_spec.proofs.VectorLaws.{dot-scaled, dot-zero, plus_comm, plus_assoc, scaled-scaled, scaled-zero}
 use Rattle.nz_spec.proofs.VectorLaws as spec
@@ -53,9 +53,6 @@ plus-zero w x h = plus_comm x (zero_vector w) ∙ zero-plus w x h
 
 pub zero-scaled : (w : ℕ) (x : Vector) → length x ≡ w → scaled (pos 0) x ≡ zero_vector w
 zero-scaled w x h = spec.zero-scaled x ∙ ap zero_vector h
-
-pub scaled_comm : (j k : ℤ) (x : Vector) → scaled j (scaled k x) ≡ scaled k (scaled j x)
-scaled_comm j k x = scaled-scaled j k x ∙ ap (λ t. scaled t x) (*ℤ_comm j k) ∙ sym (scaled-scaled k j x)
 
 -- ---- cancellation
 pub cancel_plus : (w : ℕ) (x y z : Vector) → length x ≡ w → length y ≡ w → length z ≡ w → plus x y ≡ plus x z → y ≡ z

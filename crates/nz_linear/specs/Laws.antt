@@ -1,11 +1,11 @@
 -- The theorems on rows, rays, elimination and forms that the engines rest on.
 use Rattle.std.specs.Prelude.{◌≡◌, ◌≢◌, ◌↔◌, ◌⊎◌, ℕ, ◌+◌, ◌<◌, List, [], ◌∷◌, ◌++◌, length, map, ℤ, pos, ◌*ℤ◌, ◌<ℤ◌, Contains, ◌≤ℤ◌, neg_ℤ}
-use Rattle.std.specs.List.{AllByRecursion as Each, AllZip}
+use Rattle.std.specs.List.{AllByRecursion as Each, AllZip, range_with_len}
 use Rattle.nz_spec.specs.Vectors.{Vector, dot, minus, combination, HasWidth, IsNonzero, IsPrimitive, plus, scaled, IsMultipleOf}
 use Rattle.nz_spec.specs.Sums.{IsInCone, IsInSpan, IsInGroup, IsInBox, IsIndependent, HasRank, IsInside}
 use Rattle.nz_spec.specs.Order.{Pairwise, IsListOf}
 use Rattle.nz_spec.specs.Boxes.{IsFloor}
-use Rattle.nz_spec.specs.Monoids.{IsLine, IsPositive, IsIrreducible, IsExtreme}
+use Rattle.nz_spec.specs.Monoids.{IsLine, IsPositive, IsIrreducible, IsExtreme, IsExtremeRay}
 use Rattle.nz_spec.specs.Forms.{IsOtherColumn, AreEquations, IsDualForm, AreDualForms, IsSupportForm, AreSupportForms, IsNeeded}
 use Rattle.nz_spec.specs.Systems.{System, IsSystem, IsMember}
 use Rattle.nz_spec.specs.Constraints.{AreEquationsOf, AreRowsOf}
@@ -54,6 +54,14 @@ RankIsChosen = (w : ℕ) (seen : List Vector) (chosen free : List Pair) → Each
 -- the rows span the vectors at which all the vectors left are 0
 abbrev pub SpanIsWhereZero : Type 0
 SpanIsWhereZero = (w : ℕ) (seen : List Vector) (chosen free : List Pair) (x : Vector) → Each (HasWidth w) seen → HasWidth w x → IsState w seen chosen free → IsInSpan w seen x ↔ Each (λ p. dot x p.vector ≡ pos 0) free
+
+-- before any row all columns are left
+abbrev pub StartHasColumns : Type 0
+StartHasColumns = (w : ℕ) → AreColumnPairs w (range_with_len 0 w) (unit_pairs w)
+
+-- a pivot step at the first vector at which the row is not 0 leaves out its column
+abbrev pub PivotLeavesColumns : Type 0
+PivotLeavesColumns = (w : ℕ) (h : Vector) (front : List ℕ) (c : ℕ) (back : List ℕ) (chosen free chosen' free' : List Pair) → Each (HasWidths w) free → AreColumnPairs w (front ++ c ∷ back) free → (t : IsPivotStep w h chosen free chosen' free') → Each (λ p. dot h p.vector ≡ pos 0) t.before → length front ≡ length t.before → AreColumnPairs w (front ++ back) free'
 
 -- the columns of the vectors left are those that are no key column
 abbrev pub ColumnsAreOther : Type 0
@@ -105,7 +113,11 @@ RayStepKeeps = (w : ℕ) (h : Vector) (rows rays cut : List Vector) → HasWidth
 abbrev pub NoRayTwice : Type 0
 NoRayTwice = (w : ℕ) (h : Vector) (rows rays kept : List Vector) (pairs : List RayPair) (new : List Vector) → Each (HasWidth w) rays → Each (Satisfies rows) rays → Pairwise ◌≢◌ kept → Each (Contains rays) kept → Each (IsAdjacentPair h rows rays) pairs → Pairwise ◌≢◌ pairs → AllZip (λ (q : RayPair) x. IsPrimitiveOf (meet h q.above q.below) x) pairs new → Pairwise ◌≢◌ (kept ++ new)
 
--- the list of extreme rays has just the extreme generators of the whole vectors of the cone
+-- the list of extreme rays has just the primitive extreme rays of the cone
+abbrev pub RaysAreRays : Type 0
+RaysAreRays = (w : ℕ) (rows rays : List Vector) (x : Vector) → IsPointed w rows → AreExtremeRays w rows rays → Contains rays x ↔ IsExtremeRay (IsInRows w rows) x
+
+-- and just the extreme generators of the whole vectors of the cone
 abbrev pub RaysAreExtreme : Type 0
 RaysAreExtreme = (w : ℕ) (rows rays : List Vector) (x : Vector) → IsPointed w rows → AreExtremeRays w rows rays → Contains rays x ↔ IsExtreme (IsInRows w rows) x
 

@@ -5,7 +5,7 @@
 //! Start reading at `specs/Laws.antt`; `docs/LEMMAS.md` lists the lemmas by what they are for.
 #![tactic(auto)]
 
-ghost use Rattle.nz_linear.specs.Laws.{RaysExist, RaysGenerate, VanishOrDual, StartIsState, SkipKeeps, PivotKeeps, RankIsChosen, SpanIsWhereZero, ColumnsAreOther, LeftAreEquations, EquationsExist, ChosenAreDualForms, DualFormIsUnique, CommonZeroIsLine, DualIsPointed, PointedIsPositive, ExtremeRaysExist, DualRaysStart, RayStepKeeps, NoRayTwice, RaysAreExtreme, RaysAreSupport, SupportDescribes, SupportIsNeeded, MembersAreStage, GcdExists, PrimitiveHasUnit, PrimitiveExists, PrimitiveIsUnique, FloorExists, FloorIsUnique, FloorsLeaveBox, ClearKeepsGroup, EquationCuts, CongruenceCuts, ClearKeepsDual, GroupByForms, ConeByForms, InsideByForms, ApartByForm, IrreducibleInCoordinates, ExtremeInCoordinates, LinesInCoordinates, SystemExtremeAreRays};
+ghost use Rattle.nz_linear.specs.Laws.{RaysExist, RaysGenerate, VanishOrDual, StartIsState, SkipKeeps, PivotKeeps, RankIsChosen, SpanIsWhereZero, StartHasColumns, PivotLeavesColumns, ColumnsAreOther, LeftAreEquations, EquationsExist, ChosenAreDualForms, DualFormIsUnique, CommonZeroIsLine, DualIsPointed, PointedIsPositive, ExtremeRaysExist, DualRaysStart, RayStepKeeps, NoRayTwice, RaysAreRays, RaysAreExtreme, RaysAreSupport, SupportDescribes, SupportIsNeeded, MembersAreStage, GcdExists, PrimitiveHasUnit, PrimitiveExists, PrimitiveIsUnique, FloorExists, FloorIsUnique, FloorsLeaveBox, ClearKeepsGroup, EquationCuts, CongruenceCuts, ClearKeepsDual, GroupByForms, ConeByForms, InsideByForms, ApartByForm, IrreducibleInCoordinates, ExtremeInCoordinates, LinesInCoordinates, SystemExtremeAreRays};
 
 /// The theorem of Farkas: a cone by rows is a cone by rays, and the other way round.
 pub fn rays_generate()
@@ -25,6 +25,8 @@ pub fn elimination_keeps_a_dual_pair()
 
 /// What elimination leaves are the equations of the rows, and what it has chosen are their dual forms.
 pub fn normal_forms_come_from_elimination()
+    ensures start { StartHasColumns }
+    ensures pivot { PivotLeavesColumns }
     ensures columns { ColumnsAreOther }
     ensures equations { LeftAreEquations }
     ensures exist { EquationsExist }
@@ -45,6 +47,7 @@ pub fn extreme_rays_are_kept()
     ensures start { DualRaysStart }
     ensures step { RayStepKeeps }
     ensures once { NoRayTwice }
+    ensures rays { RaysAreRays }
     ensures extreme { RaysAreExtreme }
 {}
 

@@ -1,3 +1,4 @@
+use Rattle.nz_linear.proofs.Echelon.{start_columns, pivot_columns_at}
 use Rattle.nz_linear.proofs.KeyColumns.{columns_are_other, equations_of_left}
 use Rattle.nz_linear.proofs.DualForms.{dual_form_unique, dual_forms_of_chosen}
 use Rattle.nz_linear.proofs.DescribedCone.{equations_exist}
@@ -17,3 +18,9 @@ returns-clause-dual c = dual_forms_of_chosen
 
 pub returns-clause-unique : goal.returns-clause-unique
 returns-clause-unique c = dual_form_unique
+
+pub returns-clause-start : goal.returns-clause-start
+returns-clause-start c = start_columns
+
+pub returns-clause-pivot : goal.returns-clause-pivot
+returns-clause-pivot c = pivot_columns_at
