@@ -1,5 +1,5 @@
 -- Texts that grow by one cell or one row at a time.
-use Rattle.std.proofs.Common.{◌≡◌, ℕ, zero, suc, ◌+◌, ◌-◌, ◌<◌, ◌≤◌, max, List, [], ◌∷◌, ◌++◌, length, get_or, take, replicate, ℤ, pos, refl, sym, ap, ◌∙◌, subst, arith, append_assoc, add-one}
+use Rattle.std.proofs.Common.{◌≡◌, ℕ, zero, suc, ◌+◌, ◌<◌, ◌≤◌, max, List, [], ◌∷◌, ◌++◌, length, get_or, take, pos, refl, sym, ap, ◌∙◌, arith, append_assoc, add-one}
 use Rattle.std.proofs.Math.Seq.{take-suc}
 use Rattle.std.proofs.lemmas.List.{append-nil, take_all}
 use Rattle.std.specs.Prelude.{Result, Ok, Err, OnOk}
@@ -49,6 +49,7 @@ spaced-push : (c : Text) (cs : List Text) (d : Text) → spaced ((c ∷ cs) ++ d
 spaced-push c cs d =
     ap (λ (t : Text). c ++ t) (flat_map-append (λ (e : Text). 32 ∷ e) cs (d ∷ []) ∙ ap (λ (t : Text). flat_map (λ (e : Text). 32 ∷ e) cs ++ t) (append-nil (32 ∷ d)))
     ∙ sym (append_assoc c (flat_map (λ (e : Text). 32 ∷ e) cs) (32 ∷ d))
+
 pub spaced_more : (cs : List Text) (k : ℕ) → k < length cs → spaced (take (k + 1) cs) ≡ spaced (take k cs) ++ (gap k ++ get_or cs k [])
 spaced_more cs k l = ap spaced (take_more cs k [] l) ∙ go cs k l
   where
@@ -63,18 +64,19 @@ row_more width r k old out out' l p q =
     let n : k < length (cells width 0 r) = omega (arith, length-cells width 0 r) in
     let z : 0 + k ≡ k = omega arith in
     let c : get_or (cells width 0 r) k [] ≡ right_aligned (width k) (signed_decimal (get_or r k (pos 0))) =
-        cells_at width 0 r k l ∙ ap (λ i. right_aligned (width i) (signed_decimal (get_or r k (pos 0)))) z in
+    cells_at width 0 r k l ∙ ap (λ i. right_aligned (width i) (signed_decimal (get_or r k (pos 0)))) z in
     q ∙ ap (λ (t : Text). t ++ (gap k ++ right_aligned (width k) (signed_decimal (get_or r k (pos 0))))) p
-      ∙ append_assoc old (spaced (take k (cells width 0 r))) (gap k ++ right_aligned (width k) (signed_decimal (get_or r k (pos 0))))
-      ∙ ap (λ (t : Text). old ++ (spaced (take k (cells width 0 r)) ++ (gap k ++ t))) (sym c)
-      ∙ ap (λ (t : Text). old ++ t) (sym (spaced_more (cells width 0 r) k n))
+    ∙ append_assoc old (spaced (take k (cells width 0 r))) (gap k ++ right_aligned (width k) (signed_decimal (get_or r k (pos 0))))
+    ∙ ap (λ (t : Text). old ++ (spaced (take k (cells width 0 r)) ++ (gap k ++ t))) (sym c)
+    ∙ ap (λ (t : Text). old ++ t) (sym (spaced_more (cells width 0 r) k n))
 
 -- one row more
 pub rows_more : (f : Vector → Text) (rows : List Vector) (k : ℕ) (old out out' : Text) → k < length rows → out ≡ old ++ flat_map f (take k rows) → out' ≡ out ++ f (get_or rows k []) → out' ≡ old ++ flat_map f (take (k + 1) rows)
 rows_more f rows k old out out' l p q =
     let one : flat_map f (take (k + 1) rows) ≡ flat_map f (take k rows) ++ f (get_or rows k []) =
-        ap (flat_map f) (take_more rows k [] l) ∙ flat_map-append f (take k rows) (get_or rows k [] ∷ []) ∙ ap (λ (t : Text). flat_map f (take k rows) ++ t) (append-nil (f (get_or rows k []))) in
+    ap (flat_map f) (take_more rows k [] l) ∙ flat_map-append f (take k rows) (get_or rows k [] ∷ []) ∙ ap (λ (t : Text). flat_map f (take k rows) ++ t) (append-nil (f (get_or rows k []))) in
     q ∙ ap (λ (t : Text). t ++ f (get_or rows k [])) p ∙ append_assoc old (flat_map f (take k rows)) (f (get_or rows k [])) ∙ ap (λ (t : Text). old ++ t) (sym one)
+
 -- the whole row and its end of line
 pub row_whole : {E : Type 0} (width : ℕ → ℕ) (r : Vector) (k : ℕ) (old out out' : Text) (result : Result (Unit {0}) E) → length r ≤ k → out ≡ old ++ spaced (take k (cells width 0 r)) → OnOk result (out' ≡ out ++ 10 ∷ []) → OnOk result (out' ≡ old ++ line (spaced (cells width 0 r)))
 row_whole width r k old out out' (Ok u) l p q =

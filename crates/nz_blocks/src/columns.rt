@@ -75,7 +75,12 @@ fn put_row(out: &mut Bytes, widths: &[usize], row: &Row<i128>) -> Result<(), NoM
 }
 
 /// All rows, each entry right-aligned in its column.
-pub fn put_rows(alloc: Global, out: &mut Bytes, rows: &Rows<i128>, columns: usize) -> Result<(), NoMemory>
+pub fn put_rows(
+    alloc: Global,
+    out: &mut Bytes,
+    rows: &Rows<i128>,
+    columns: usize,
+) -> Result<(), NoMemory>
     requires widths { Each (HasWidth columns) rows.now }
     ensures { OnOk result (out.new ≡ out.old ++ flat_map (row_text rows.now) rows.now) }
 {

@@ -48,7 +48,13 @@ fn put_head(out: &mut Bytes, amb: u32, level: bool) -> Result<(), NoMemory>
     out.push(b'\n')
 }
 
-fn put_block(alloc: Global, out: &mut Bytes, heading: &[u8], rows: &Rows<i128>, columns: usize) -> Result<(), NoMemory>
+fn put_block(
+    alloc: Global,
+    out: &mut Bytes,
+    heading: &[u8],
+    rows: &Rows<i128>,
+    columns: usize,
+) -> Result<(), NoMemory>
     requires widths { Each (HasWidth columns) rows.now }
     ensures { OnOk result (out.new ≡ out.old ++ block heading.now rows.now) }
 {
@@ -65,7 +71,11 @@ pub fn blocks(alloc: Global, outcome: &Outcome) -> Result<Bytes, NoMemory>
 {
     let mut out = Bytes::new(alloc);
     put_head(&mut out, outcome.amb, outcome.level)?;
-    let columns = if outcome.level { outcome.amb as usize + 1 } else { outcome.amb as usize };
+    let columns = if outcome.level {
+        outcome.amb as usize + 1
+    } else {
+        outcome.amb as usize
+    };
     match &outcome.hilbert {
         Some(rows) => put_block(alloc, &mut out, heading_of(outcome.level), rows, columns)?,
         None => {}

@@ -1,5 +1,5 @@
 -- The next vector of a box: the last entry below m goes up by one, and those behind it, all m, become 0.
-use Rattle.std.proofs.Common.{◌≡◌, ◌≢◌, ℕ, zero, suc, ◌+◌, ◌-◌, ◌*◌, ◌^◌, ◌<◌, ◌≤◌, List, [], ◌∷◌, ◌++◌, length, take, get_or, replicate, ℤ, pos, negsuc, nat_abs, ◌+ℤ◌, ◌≤ℤ◌, ◌<ℤ◌, inl, inr, refl, sym, ap, ◌∙◌, subst, arith, append_assoc, add-one}
+use Rattle.std.proofs.Common.{◌≡◌, ℕ, zero, suc, ◌+◌, ◌-◌, ◌*◌, ◌^◌, ◌<◌, ◌≤◌, [], ◌∷◌, ◌++◌, length, take, get_or, replicate, ℤ, pos, negsuc, nat_abs, ◌+ℤ◌, ◌≤ℤ◌, ◌<ℤ◌, inl, inr, refl, sym, ap, ◌∙◌, subst, arith, append_assoc, add-one}
 use Rattle.std.proofs.lemmas.Int.{ints}
 use Rattle.std.proofs.lemmas.List.{get_or_default, length-replicate, length-take, take_all, append-nil}
 use Rattle.std.proofs.Math.ListN.{set}
@@ -40,14 +40,14 @@ next_in m [] a k h l = record {
   later = inl (omega (arith, ints));
   none_between = between;
   fewer =
-    (let z = left_zero m k in
-     let n = abs_next m a h.0.0 l in
-     let lz = length-replicate k (pos 0) in
-     let lm = length-replicate k (pos m) in
-     let p = ap (λ j. (m - nat_abs (a +ℤ pos 1)) * (m + 1) ^ j) lz in
-     let q = ap (λ j. (m - nat_abs a) * (m + 1) ^ j) lm in
-     let r = ap (λ j. j * (m + 1) ^ k) n in
-     omega (arith));
+      (let z = left_zero m k in
+      let n = abs_next m a h.0.0 l in
+      let lz = length-replicate k (pos 0) in
+      let lm = length-replicate k (pos m) in
+      let p = ap (λ j. (m - nat_abs (a +ℤ pos 1)) * (m + 1) ^ j) lz in
+      let q = ap (λ j. (m - nat_abs a) * (m + 1) ^ j) lm in
+      let r = ap (λ j. j * (m + 1) ^ k) n in
+      omega (arith));
 }
   where
     between : (y : Vector) → length y ≡ length (a ∷ replicate k (pos m)) → IsWithin m y → IsLexBefore (a ∷ replicate k (pos m)) y → ¬ IsLexBefore y ((a +ℤ pos 1) ∷ replicate k (pos 0))
@@ -98,16 +98,16 @@ pub entry_at : (old x : Vector) (k : ℕ) (z : ℤ) → k < length old → EndsI
 entry_at old x k z l e =
     let f = front_length old k l in
     ap (λ (v : Vector). get_or v (length old - 1 - k) (pos 0)) (split_at old x k z l e)
-      ∙ ap (λ n. get_or (take (length old - 1 - k) old ++ get_or old (length old - 1 - k) (pos 0) ∷ replicate k z) n (pos 0)) (sym f)
-      ∙ get_or-append_seam (take (length old - 1 - k) old) (get_or old (length old - 1 - k) (pos 0)) (replicate k z) (pos 0)
+    ∙ ap (λ n. get_or (take (length old - 1 - k) old ++ get_or old (length old - 1 - k) (pos 0) ∷ replicate k z) n (pos 0)) (sym f)
+    ∙ get_or-append_seam (take (length old - 1 - k) old) (get_or old (length old - 1 - k) (pos 0)) (replicate k z) (pos 0)
 
 -- the vector with another entry there
 pub set_at : (old x : Vector) (k : ℕ) (z b : ℤ) → k < length old → EndsIn old k z x → set x (length old - 1 - k) b ≡ take (length old - 1 - k) old ++ b ∷ replicate k z
 set_at old x k z b l e =
     let f = front_length old k l in
     ap (λ (v : Vector). set v (length old - 1 - k) b) (split_at old x k z l e)
-      ∙ ap (λ n. set (take (length old - 1 - k) old ++ get_or old (length old - 1 - k) (pos 0) ∷ replicate k z) n b) (sym f)
-      ∙ set-append_seam (take (length old - 1 - k) old) (get_or old (length old - 1 - k) (pos 0)) (replicate k z) b
+    ∙ ap (λ n. set (take (length old - 1 - k) old ++ get_or old (length old - 1 - k) (pos 0) ∷ replicate k z) n b) (sym f)
+    ∙ set-append_seam (take (length old - 1 - k) old) (get_or old (length old - 1 - k) (pos 0)) (replicate k z) b
 
 -- one entry more is z
 pub ends_more : (old x : Vector) (k : ℕ) (z : ℤ) → k < length old → EndsIn old k z x → EndsIn old (k + 1) z (set x (length old - 1 - k) z)

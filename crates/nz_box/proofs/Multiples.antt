@@ -1,13 +1,12 @@
 -- Multiples among natural numbers, and remainders.
-use Rattle.std.proofs.Common.{◌≡◌, ◌≢◌, ℕ, zero, suc, ◌+◌, ◌-◌, ◌*◌, ◌/◌, ◌%◌, ◌<◌, ◌≤◌, ℤ, pos, negsuc, ◌+ℤ◌, ◌-ℤ◌, ◌*ℤ◌, neg_ℤ, nat_abs, ◌≤ℤ◌, refl, sym, ap, ◌∙◌, subst, arith}
+use Rattle.std.proofs.Common.{◌≡◌, ℕ, suc, ◌+◌, ◌-◌, ◌*◌, ◌/◌, ◌%◌, ◌<◌, ◌≤◌, ℤ, pos, negsuc, ◌-ℤ◌, ◌*ℤ◌, neg_ℤ, nat_abs, ◌≤ℤ◌, refl, sym, ap, ◌∙◌, arith}
 use Rattle.std.specs.Prelude.{◌↔◌}
 use Rattle.std.proofs.lemmas.Int.{ints}
 use Rattle.std.proofs.Math.IntN.{pos-*ℤ-pos, negsuc-*ℤ-pos}
 use Rattle.std.proofs.Math.Nat.{mul-mod_left, add-mul-mod_self_right, mul-le-mul_right}
 use Rattle.std.specs.Int.{int_rem_euclid}
-use Rattle.std.specs.Prelude.{unsigned_abs}
 use Rattle.nz_spec.specs.Vectors.{IsMultipleOf}
-use Rattle.nz_spec.proofs.IntLaws.{mul_assoc, multiple_sub, multiple_mul}
+use Rattle.nz_spec.proofs.IntLaws.{mul_assoc}
 
 pub to_multiple : (a n k : ℕ) → n ≡ k * a → IsMultipleOf (pos a) (pos n)
 to_multiple a n k e = (pos k, ap pos e ∙ sym (pos-*ℤ-pos k a))

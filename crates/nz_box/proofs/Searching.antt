@@ -1,14 +1,14 @@
 -- The steps of the search through the box.
-use Rattle.std.proofs.Common.{◌≡◌, ℕ, zero, suc, ◌+◌, ◌<◌, ◌≤◌, List, [], ◌∷◌, ◌++◌, length, map, get_or, ℤ, pos, ◌≤ℤ◌, refl, sym, ap, ◌∙◌, subst, arith}
-use Rattle.std.specs.Prelude.{Contains, None}
+use Rattle.std.proofs.Common.{◌≡◌, ℕ, zero, suc, ◌<◌, List, [], ◌∷◌, ◌++◌, length, map, get_or, ℤ, pos, ◌≤ℤ◌, refl, sym, ap, ◌∙◌, arith}
+use Rattle.std.specs.Prelude.{Contains}
 use Rattle.std.proofs.lemmas.List.{get_or_default}
 use Rattle.std.specs.List.{AllZip, AllByRecursion as Each}
-use Rattle.nz_spec.specs.Vectors.{Vector, zero_vector, HasWidth}
-use Rattle.nz_spec.specs.Systems.{System, IsMember, IsMultipleBy}
+use Rattle.nz_spec.specs.Vectors.{Vector, HasWidth}
+use Rattle.nz_spec.specs.Systems.{IsMember, IsMultipleBy}
 use Rattle.nz_spec.specs.Monoids.{IsIrreducible}
 use Rattle.nz_spec.specs.Order.{IsLexBefore, IsListOf}
 use Rattle.nz_spec.proofs.ListLaws.{Each-weaker, Each-contains}
-use Rattle.nz_order.specs.Boxes.{IsOrthant, Holds, IsWithin, IsBelow, IsCommonMultiple}
+use Rattle.nz_order.specs.Boxes.{IsOrthant, Holds, IsWithin, IsBelow}
 use Rattle.nz_order.proofs.BoxLaws.{member_of, within_signs}
 use Rattle.nz_order.proofs.SearchLaws.{Searched, IsNext, keeps, passes, reduced, searched_all, later_is_nonzero}
 use Rattle.nz_box.specs.Congruences.{congruence_of, congruence_system}
@@ -25,9 +25,9 @@ module _ (w : ℕ) (rows : List Vector) (m : ℕ) (side : IsSide (congruence_sys
   pub keeps_next : Holds (map congruence_of rows) x' → ((y : Vector) → Contains list y → ¬ IsBelow y x') → Searched (congruence_system w rows) x' (list ++ x' ∷ [])
   keeps_next h none =
       keeps (congruence_system w rows) (orthant w rows) m side.positive side.common x x' list s (next_of w m x x' l n)
-        (member_of (congruence_system w rows) (orthant w rows) x' (n.width ∙ l) (within_signs m x' n.inside) h)
-        (later_is_nonzero x x' (within_signs m x inside) n.later)
-        none
+      (member_of (congruence_system w rows) (orthant w rows) x' (n.width ∙ l) (within_signs m x' n.inside) h)
+      (later_is_nonzero x x' (within_signs m x inside) n.later)
+      none
 
   pub passes_reduced : ((y : Vector) × Contains list y × IsBelow y x') → Searched (congruence_system w rows) x' list
   passes_reduced r = passes (congruence_system w rows) (orthant w rows) m side.positive side.common x x' list s (next_of w m x x' l n) (reduced (congruence_system w rows) (orthant w rows) m side.positive side.common x x' list s (next_of w m x x' l n) r.0 r.1 r.2)

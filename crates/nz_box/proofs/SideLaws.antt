@@ -1,17 +1,15 @@
 -- The least common multiple of the moduli, one row after another.
-use Rattle.std.proofs.Common.{◌≡◌, ◌≢◌, ℕ, zero, suc, ◌+◌, ◌-◌, ◌*◌, ◌/◌, ◌%◌, ◌<◌, ◌≤◌, ◌^◌, List, [], ◌∷◌, ◌++◌, length, map, take, get_or, ℤ, pos, ◌+ℤ◌, ◌-ℤ◌, ◌*ℤ◌, ◌≤ℤ◌, refl, sym, ap, ◌∙◌, subst, arith, add-one}
-use Rattle.std.proofs.lemmas.Int.{ints}
+use Rattle.std.proofs.Common.{◌≡◌, ◌≢◌, ℕ, zero, suc, ◌+◌, ◌-◌, ◌*◌, ◌/◌, ◌%◌, ◌<◌, ◌≤◌, ◌^◌, List, [], ◌∷◌, ◌++◌, length, map, take, get_or, ℤ, pos, ◌*ℤ◌, refl, sym, ap, ◌∙◌, subst, arith, add-one}
 use Rattle.std.proofs.lemmas.List.{map-append}
 use Rattle.std.proofs.Math.Seq.{take-suc}
 use Rattle.std.proofs.Math.Nat.{mul-le-mul_right, mul-le-mul, pow-suc, pow-zero, pow-le-pow_right}
 use Rattle.std.specs.List.{AllByRecursion as Each}
-use Rattle.nz_spec.specs.Vectors.{Vector, IsMultipleOf, entry}
+use Rattle.nz_spec.specs.Vectors.{Vector, IsMultipleOf}
 use Rattle.nz_spec.specs.Systems.{Congruence, System}
 use Rattle.nz_spec.proofs.IntLaws.{multiple_sub, multiple_mul}
 use Rattle.nz_spec.proofs.ListLaws.{Each-weaker}
-use Rattle.nz_order.specs.Boxes.{IsCommonMultiple}
 use Rattle.nz_order.proofs.OrderLaws.{Each-push, Each-both}
-use Rattle.nz_box.specs.Congruences.{congruence_of, congruence_system, IsCongruenceRow}
+use Rattle.nz_box.specs.Congruences.{congruence_of, congruence_system}
 use Rattle.nz_box.specs.Sides.{IsSide, IsCrowded}
 use Rattle.nz_box.specs.Steps.{IsCommon, IsLeastCommon}
 use Rattle.nz_box.proofs.Multiples.{to_multiple, from_multiple, multiple_trans, rest_zero, multiple_rest, rest_is}
@@ -68,7 +66,7 @@ least_divides : (cg : List Congruence) (m n : ℕ) → 1 ≤ m → OfAll cg m �
 least_divides cg m n one all least h =
     let r = rest_is m n in
     let rest : OfAll cg (n % m) = Each-both (λ (c : Congruence). IsMultipleOf c.modulus (pos n)) (λ (c : Congruence). IsMultipleOf c.modulus (pos m)) (λ (c : Congruence). IsMultipleOf c.modulus (pos (n % m)))
-        (λ c a b. subst (λ (z : ℤ). IsMultipleOf c.modulus z) (sym r) (multiple_sub c.modulus (pos n) (pos (n / m) *ℤ pos m) a (multiple_mul c.modulus (pos (n / m)) (pos m) b))) cg h all in
+    (λ c a b. subst (λ (z : ℤ). IsMultipleOf c.modulus z) (sym r) (multiple_sub c.modulus (pos n) (pos (n / m) *ℤ pos m) a (multiple_mul c.modulus (pos (n / m)) (pos m) b))) cg h all in
     go (n % m) refl rest
   where
     go : (k : ℕ) → n % m ≡ k → OfAll cg k → IsMultipleOf (pos m) (pos n)
@@ -96,13 +94,13 @@ side_more w rows j m d n l s e c = record {
   positive = c.common.positive;
   common = subst (λ (cg : List Congruence). OfAll cg n) (sym (moduli_more w rows j l))
       (Each-push (λ (c : Congruence). IsMultipleOf c.modulus (pos n)) (map congruence_of (take j rows)) (congruence_of (get_or rows j []))
-        (Each-weaker (λ (c : Congruence). IsMultipleOf c.modulus (pos m)) (λ (c : Congruence). IsMultipleOf c.modulus (pos n)) (λ q h. multiple_trans q.modulus (pos m) (pos n) h c.common.of_first) (map congruence_of (take j rows)) s.common)
-        (subst (λ (z : ℤ). IsMultipleOf z (pos n)) e c.common.of_second));
+      (Each-weaker (λ (c : Congruence). IsMultipleOf c.modulus (pos m)) (λ (c : Congruence). IsMultipleOf c.modulus (pos n)) (λ q h. multiple_trans q.modulus (pos m) (pos n) h c.common.of_first) (map congruence_of (take j rows)) s.common)
+      (subst (λ (z : ℤ). IsMultipleOf z (pos n)) e c.common.of_second));
   least = λ k one h. let t = split_more w rows j k l h in c.least k (record {
-      positive = one;
-      of_first = least_divides (map congruence_of (take j rows)) m k s.positive s.common s.least t.0;
-      of_second = subst (λ (z : ℤ). IsMultipleOf z (pos k)) (sym e) t.1;
-    });
+    positive = one;
+    of_first = least_divides (map congruence_of (take j rows)) m k s.positive s.common s.least t.0;
+    of_second = subst (λ (z : ℤ). IsMultipleOf z (pos k)) (sym e) t.1;
+  });
 }
 
 all_of_prefix : (rows : List Vector) (j n : ℕ) → OfAll (map congruence_of rows) n → OfAll (map congruence_of (take j rows)) n

@@ -1,11 +1,10 @@
 -- The value of a form at a point of the box, one column after another.
-use Rattle.std.proofs.Common.{◌≡◌, ℕ, zero, suc, ◌+◌, ◌-◌, ◌*◌, ◌<◌, ◌≤◌, ◌^◌, List, [], ◌∷◌, length, take, get_or, ℤ, pos, negsuc, ◌+ℤ◌, ◌*ℤ◌, ◌≤ℤ◌, ◌<ℤ◌, refl, sym, ap, ◌∙◌, subst, arith, lit<, add-one}
-use Rattle.std.proofs.lemmas.Int.{ints, unsigned_abs-mul, fits_signed_from_abs, fits_signed_mul}
+use Rattle.std.proofs.Common.{◌≡◌, ℕ, zero, suc, ◌+◌, ◌*◌, ◌<◌, ◌≤◌, ◌^◌, [], ◌∷◌, length, take, get_or, ℤ, pos, negsuc, ◌+ℤ◌, ◌*ℤ◌, ◌≤ℤ◌, ◌<ℤ◌, refl, sym, ap, ◌∙◌, subst, arith, lit<, add-one}
+use Rattle.std.proofs.lemmas.Int.{ints, unsigned_abs-mul, fits_signed_from_abs}
 use Rattle.std.proofs.Math.Nat.{mul-le-mul}
 use Rattle.std.specs.Prelude.{FitsSigned}
-use Rattle.std.specs.Int.{w64, w128}
+use Rattle.std.specs.Int.{w128}
 use Rattle.std.specs.Prelude.{unsigned_abs}
-use Rattle.std.specs.List.{AllByRecursion as Each}
 use Rattle.nz_spec.specs.Vectors.{Vector, dot}
 use Rattle.nz_order.specs.Boxes.{IsWithin}
 use Rattle.std.proofs.Math.Facts.{to_z-of_z}
@@ -105,7 +104,7 @@ test_same : (a : ℤ) (side : ℕ) (b m : ℤ) → SFits w128 a → side ≤ 100
 test_same a side b m f l e g =
     let k : SFits w128 (pos side) = fits_signed_from_abs w128 (pos side) (let c : 1000000 < 2 ^ 127 = lit< tt in omega arith) in
     ap (λ z. lt_z (to_z w128 (of_z w128 z)) (to_z w128 (of_z w128 m))) e ∙ ap (λ z. lt_z z (to_z w128 (of_z w128 m))) (to_z-of_z {w = w128} {z = a} f)
-      ∙ ap (λ z. lt_z a (to_z w128 (of_z w128 z))) g ∙ ap (λ z. lt_z a z) (to_z-of_z {w = w128} {z = pos side} k)
+    ∙ ap (λ z. lt_z a (to_z w128 (of_z w128 z))) g ∙ ap (λ z. lt_z a z) (to_z-of_z {w = w128} {z = pos side} k)
 
 pub less_test : (a : ℤ) (side : ℕ) (b m : ℤ) → SFits w128 a → side ≤ 1000000 → b ≡ a → m ≡ pos side → lt_z (to_z w128 (of_z w128 b)) (to_z w128 (of_z w128 m)) ≡ true → a <ℤ pos side
 less_test a side b m f l e g h = lt_z_yes {a = a} {b = pos side} (subst T (sym (sym (test_same a side b m f l e g) ∙ h)) tt)

@@ -1,5 +1,5 @@
 -- The steps of the search through the box, for the clauses of its private functions.
-use Rattle.std.specs.Prelude.{◌≡◌, ℕ, ◌+◌, ◌-◌, ◌*◌, ◌<◌, ◌≤◌, ◌^◌, nat_abs, pos, List, [], ◌∷◌, length}
+use Rattle.std.specs.Prelude.{◌≡◌, ℕ, ◌+◌, ◌-◌, ◌*◌, ◌<◌, ◌≤◌, ◌^◌, nat_abs, pos, [], ◌∷◌, length}
 use Rattle.nz_spec.specs.Vectors.{Vector, IsMultipleOf}
 use Rattle.nz_spec.specs.Order.{IsLexBefore}
 use Rattle.nz_order.specs.Boxes.{IsWithin}

@@ -13,9 +13,9 @@ holds_none P xs i l = absurd (omega arith)
 
 pub holds_more : {A : Type 0} (P : A → Type 0) (xs : List A) (k : ℕ) (x : A) → HoldsBelow P xs k → slice_get xs k ≡ Some x → P x → HoldsBelow P xs (k + 1)
 holds_more P xs k x h e p i l y f = elim (split i k (omega arith)) [
-    inl m ↦ h i m y f
+  | inl m ↦ h i m y f
   | inr s ↦ (let g : slice_get xs k ≡ Some y = ap (slice_get xs) (sym s) ∙ f in let j : x ≡ y = cc (sym e ∙ g) in subst P j p)
-  ]
+]
   where
     split : (i k : ℕ) → i ≤ k → (i < k) ⊎ (i ≡ k)
     split zero zero l = inr refl

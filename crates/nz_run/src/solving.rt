@@ -76,7 +76,17 @@ pub fn solved(alloc: Global, input: &[u8]) -> Result<Bytes, Status>
     }
     let file = match read(alloc, input) {
         Ok(file) => file,
-        Err(ReadRefusal::Grammar { line, column, fault }) => return Err(Status::Grammar { line, column, fault }),
+        Err(
+            ReadRefusal::Grammar {
+                line,
+                column,
+                fault,
+            },
+        ) => return Err(Status::Grammar {
+            line,
+            column,
+            fault,
+        }),
         Err(ReadRefusal::NoMemory) => return Err(Status::NoMemory),
     };
     match first_unbuilt(&file) {

@@ -17,7 +17,11 @@ pub enum Status {
     /// The input has more than 16,777,216 bytes.
     TooLong,
     /// The input is a text of no file; lines and columns count from 1, columns in bytes.
-    Grammar { line: u64, column: u64, fault: Fault },
+    Grammar {
+        line: u64,
+        column: u64,
+        fault: Fault,
+    },
     /// The file has an item or a goal that the program does not solve yet.
     NotBuilt(Keyword),
     /// The box of the vectors with entries from 0 to the least common multiple of the moduli has more than a million vectors.

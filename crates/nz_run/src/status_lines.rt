@@ -84,7 +84,11 @@ pub fn put_status<S: Sink>(console: &mut S, status: Status) -> bool
     ensures later { S.faults console.old ≤ S.faults console.new }
 {
     match status {
-        Status::Grammar { line, column, fault } => put_place(console, line, column, fault),
+        Status::Grammar {
+            line,
+            column,
+            fault,
+        } => put_place(console, line, column, fault),
         Status::NotBuilt(keyword) => put_text(console, b"not built: ", keyword.word()),
         Status::Done => put_all(console, b"done\n"),
         Status::Usage => put_all(console, b"usage: nmz [options] PROJECT\n"),

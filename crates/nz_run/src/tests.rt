@@ -8,6 +8,7 @@ use std::alloc::Global;
 use std::test::Fail;
 
 const FIRST: &[u8] = b"amb_space 2\ncongruences 1\n1 1 2\n";
+
 const FIRST_TEXT: &[u8] = b"amb_space 2\nhomogeneous\n\n3 Hilbert basis elements:\n0 2\n1 1\n2 0\n";
 
 // The input file of a project, where there is one.
@@ -49,7 +50,11 @@ fn run_on(
     folder_fails: u64,
     console_fails: u64,
 ) -> Result<Ran, Fail> {
-    let mut folder = MemFolder::new(alloc, files_of(alloc, input)?, failing(alloc, folder_fails)?)?;
+    let mut folder = MemFolder::new(
+        alloc,
+        files_of(alloc, input)?,
+        failing(alloc, folder_fails)?,
+    )?;
     let mut console = MemSink::new(alloc, 100, failing(alloc, console_fails)?)?;
     let mut watch: Box<dyn Watch> = Box::new(alloc, QuietWatch::new())?;
     let mut words = Vec::new(alloc);
@@ -65,8 +70,24 @@ fn run_on(
 #[test]
 fn runs(rt: HostRuntime) -> Result<(), Fail> {
     for (word, input, folder_fails, console_fails, code, line, stored) in [
-        ("p", Some(FIRST), 0, 0, 0, b"done\n".as_slice(), Some(FIRST_TEXT)),
-        ("p.in", Some(FIRST), 0, 0, 0, b"done\n".as_slice(), Some(FIRST_TEXT)),
+        (
+            "p",
+            Some(FIRST),
+            0,
+            0,
+            0,
+            b"done\n".as_slice(),
+            Some(FIRST_TEXT),
+        ),
+        (
+            "p.in",
+            Some(FIRST),
+            0,
+            0,
+            0,
+            b"done\n".as_slice(),
+            Some(FIRST_TEXT),
+        ),
         (
             "p",
             Some(b"amb_space 2\n".as_slice()),
@@ -83,7 +104,9 @@ fn runs(rt: HostRuntime) -> Result<(), Fail> {
             0,
             0,
             b"done\n".as_slice(),
-            Some(b"amb_space 2\nhomogeneous\n\n3 Hilbert basis elements:\n0 3\n1 1\n3 0\n".as_slice()),
+            Some(
+                b"amb_space 2\nhomogeneous\n\n3 Hilbert basis elements:\n0 3\n1 1\n3 0\n".as_slice(),
+            ),
         ),
         (
             "p",
@@ -94,15 +117,71 @@ fn runs(rt: HostRuntime) -> Result<(), Fail> {
             b"done\n".as_slice(),
             Some(b"amb_space 1\nhomogeneous\n\n1 Hilbert basis elements:\n18\n".as_slice()),
         ),
-        ("", None, 0, 0, 2, b"usage: nmz [options] PROJECT\n".as_slice(), None),
-        ("-x", None, 0, 0, 2, b"usage: nmz [options] PROJECT\n".as_slice(), None),
-        (".in", None, 0, 0, 2, b"usage: nmz [options] PROJECT\n".as_slice(), None),
+        (
+            "",
+            None,
+            0,
+            0,
+            2,
+            b"usage: nmz [options] PROJECT\n".as_slice(),
+            None,
+        ),
+        (
+            "-x",
+            None,
+            0,
+            0,
+            2,
+            b"usage: nmz [options] PROJECT\n".as_slice(),
+            None,
+        ),
+        (
+            ".in",
+            None,
+            0,
+            0,
+            2,
+            b"usage: nmz [options] PROJECT\n".as_slice(),
+            None,
+        ),
         ("p", None, 0, 0, 3, b"no input file\n".as_slice(), None),
         ("p", Some(FIRST), 1, 0, 4, b"read fault\n".as_slice(), None),
-        ("p", Some(b"amb_space 65".as_slice()), 0, 0, 6, b"line 1 column 12: TooWide\n".as_slice(), None),
-        ("p", Some(FIRST), 2, 0, 13, b"write fault\n".as_slice(), None),
-        ("p", Some(b"amb_space 2\ncone 1\n1 1\n".as_slice()), 0, 0, 15, b"not built: cone\n".as_slice(), None),
-        ("p", Some(b"amb_space 2\nExtremeRays\n".as_slice()), 0, 0, 15, b"not built: ExtremeRays\n".as_slice(), None),
+        (
+            "p",
+            Some(b"amb_space 65".as_slice()),
+            0,
+            0,
+            6,
+            b"line 1 column 12: TooWide\n".as_slice(),
+            None,
+        ),
+        (
+            "p",
+            Some(FIRST),
+            2,
+            0,
+            13,
+            b"write fault\n".as_slice(),
+            None,
+        ),
+        (
+            "p",
+            Some(b"amb_space 2\ncone 1\n1 1\n".as_slice()),
+            0,
+            0,
+            15,
+            b"not built: cone\n".as_slice(),
+            None,
+        ),
+        (
+            "p",
+            Some(b"amb_space 2\nExtremeRays\n".as_slice()),
+            0,
+            0,
+            15,
+            b"not built: ExtremeRays\n".as_slice(),
+            None,
+        ),
         (
             "p",
             Some(b"amb_space 2\ncongruences 1\n1 1 0\n".as_slice()),
@@ -150,6 +229,9 @@ fn long_inputs(rt: HostRuntime) -> Result<(), Fail> {
     assert_eq!(rt; long.console.bytes(), b"input too long\n".as_slice());
     let longest = run_on(rt.alloc(), "p", Some(&bytes[..16_777_216]), 0, 0)?;
     assert_eq!(rt; longest.code, 6);
-    assert_eq!(rt; longest.console.bytes(), b"line 1 column 16777217: NoAmb\n".as_slice());
+    assert_eq!(rt;
+        longest.console.bytes(),
+        b"line 1 column 16777217: NoAmb\n".as_slice()
+    );
     Ok(())
 }

@@ -26,7 +26,12 @@ fn file_name(alloc: Global, project: &str, ending: &str) -> Result<String, NoMem
 }
 
 // Solves what was loaded, and stores the text.
-fn solve_and_store<F: Folder>(alloc: Global, output_name: &str, input: &[u8], folder: &mut F) -> Status
+fn solve_and_store<F: Folder>(
+    alloc: Global,
+    output_name: &str,
+    input: &[u8],
+    folder: &mut F,
+) -> Status
     ensures outcome { BothTold (F.files folder.old) (F.files folder.new) (Leaves output_name.now input.now result) }
     ensures count { StoreCount result (F.store_faults folder.old) (F.store_faults folder.new) }
     ensures faults { F.faults folder.new ≡ F.faults folder.old }
@@ -59,7 +64,12 @@ fn run_project<F: Folder>(alloc: Global, project: &str, folder: &mut F) -> Statu
         Err(_) => return Status::NoMemory,
     };
     match folder.load(alloc, input_name.as_str(), MOST) {
-        Load::Bytes(input) => solve_and_store(alloc, output_name.as_str(), input.as_slice(), folder),
+        Load::Bytes(input) => solve_and_store(
+            alloc,
+            output_name.as_str(),
+            input.as_slice(),
+            folder,
+        ),
         Load::Absent => Status::Absent,
         Load::Failed => Status::ReadFault,
         Load::NoMemory => Status::NoMemory,

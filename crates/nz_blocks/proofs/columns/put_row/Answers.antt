@@ -1,11 +1,7 @@
-use Rattle.std.proofs.Common.{◌≡◌, ◌<◌, ◌++◌, ◌∷◌, [], length, get_or, take, ap, sym, ◌∙◌, arith, append_assoc, subst, rules}
-use Rattle.std.proofs.lemmas.List.{take_all}
-use Rattle.std.specs.Prelude.{OnOk}
-use Rattle.nz_vec.specs.Texts.{Text}
+use Rattle.std.proofs.Common.{◌++◌, get_or, ap, ◌∙◌, arith, rules}
 use Rattle.std.proofs.Math.Facts.{to_z-of_z}
 use Rattle.std.specs.Fmt.{signed_decimal}
-use Rattle.nz_blocks.specs.Columns.{cells, spaced, gap, right_aligned}
-use Rattle.nz_blocks.specs.Output.{line}
+use Rattle.nz_blocks.specs.Columns.{gap, right_aligned}
 use Rattle.nz_blocks.proofs.Laying.{row_more, row_whole}
 use Rattle.nz_blocks.proofs.columns.put_row.Goals as goal
 use mir.Val.{SFits}
@@ -20,4 +16,3 @@ loop-place-preserved c =
 
 pub returns : goal.returns
 returns c = row_whole (λ j. get_or c.args.widths.now j 0) c.args.row.now c.loop-place.place c.args.out.now c.loop-place.out c.push.new.self c.push.result (omega (arith, c.len-place-end.ensures)) c.loop-place.invariant c.push.ensures.ok
-

@@ -1,5 +1,4 @@
-use Rattle.std.proofs.Common.{◌≡◌, ◌<◌, ◌≤◌, ◌+◌, ◌++◌, [], List, ℕ, length, arith, ap, sym, ◌∙◌, get_or}
-use Rattle.std.specs.List.{slice_index}
+use Rattle.std.proofs.Common.{◌<◌, ◌≤◌, ◌+◌, ◌++◌, [], List, ℕ, length, arith, ap, ◌∙◌, get_or}
 use Rattle.nz_spec.specs.Vectors.{Vector, HasWidth}
 use Rattle.nz_vec.specs.Texts.{Text}
 use Rattle.nz_blocks.specs.Columns.{column_width, cells, spaced}
@@ -15,7 +14,7 @@ loop-place-preserved c =
     let n : 0 + length row ≤ c.args.columns = omega (arith, w) in
     let same = cells_same (λ j. get_or c.in_ok-widths.widths.items j 0) (column_width c.args.rows.now) 0 c.args.columns row n c.in_ok-widths.ensures.each in
     rows_more (row_text c.args.rows.now) c.args.rows.now c.loop-place.place c.args.out.now c.loop-place.out c.put_row.new.out l c.loop-place.invariant
-        (c.in_ok-put_row.ensures
-            ∙ ap (λ (ws : List ℕ). c.loop-place.out ++ line (spaced (cells (λ j. get_or ws j 0) 0 c.at.result.now))) c.deref.ensures.value
-            ∙ ap (λ (r : Vector). c.loop-place.out ++ line (spaced (cells (λ j. get_or c.in_ok-widths.widths.items j 0) 0 r))) c.at.ensures
-            ∙ ap (λ (cs : List Text). c.loop-place.out ++ line (spaced cs)) same)
+    (c.in_ok-put_row.ensures
+    ∙ ap (λ (ws : List ℕ). c.loop-place.out ++ line (spaced (cells (λ j. get_or ws j 0) 0 c.at.result.now))) c.deref.ensures.value
+    ∙ ap (λ (r : Vector). c.loop-place.out ++ line (spaced (cells (λ j. get_or c.in_ok-widths.widths.items j 0) 0 r))) c.at.ensures
+    ∙ ap (λ (cs : List Text). c.loop-place.out ++ line (spaced cs)) same)

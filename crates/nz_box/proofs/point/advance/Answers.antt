@@ -1,13 +1,10 @@
-use Rattle.std.proofs.Common.{◌≡◌, ◌<◌, ◌≤◌, ◌+◌, ◌-◌, length, arith, ap, sym, ◌∙◌, subst, get_or, ℤ, pos, ◌<ℤ◌, ◌≤ℤ◌, ◌+ℤ◌, refl, rules, List, vec_len, length-set}
+use Rattle.std.proofs.Common.{◌≡◌, ◌<◌, ◌≤◌, ◌-◌, length, arith, ap, ◌∙◌, get_or, pos, ◌+ℤ◌, refl, length-set}
 use Rattle.std.proofs.Math.ListN.{set}
-use Rattle.std.proofs.lemmas.Int.{ints}
-use Rattle.std.proofs.Math.Facts.{to_z-of_z}
 use Rattle.std.specs.Int.{w128}
-use Rattle.nz_box.specs.Steps.{IsNextIn}
 use Rattle.nz_box.proofs.Values.{small_fits, above_fits, less_test, least_test}
-use Rattle.nz_box.proofs.Advance.{EndsIn, advanced, is_most, entry_at, ends_more, ends_same, ends_none, ends_all, last_in, read_at, read_within}
+use Rattle.nz_box.proofs.Advance.{advanced, is_most, ends_more, ends_same, ends_none, ends_all, last_in, read_at, read_within}
 use Rattle.nz_box.proofs.point.advance.Goals as goal
-use mir.Val.{SFits, to_z, of_z}
+use mir.Val.{to_z, of_z}
 
 pub loop-behind-init : goal.loop-behind-init
 loop-behind-init c = record {

@@ -1,4 +1,4 @@
-use Rattle.std.proofs.Common.{◌≡◌, ◌≤◌, length, pos}
+use Rattle.std.proofs.Common.{◌≡◌, length, pos}
 use Rattle.nz_box.proofs.Advance.{EndsIn}
 use Rattle.nz_box.proofs.point.advance.Given as goal
 

@@ -1,6 +1,5 @@
-use Rattle.std.proofs.Common.{◌≡◌, ◌<◌, length, arith, get_or, pos, ◌≤ℤ◌, ◌<ℤ◌, rules}
-use Rattle.std.proofs.lemmas.Int.{ints}
-use Rattle.nz_box.proofs.Searching.{zip_from, zip_at}
+use Rattle.std.proofs.Common.{arith}
+use Rattle.nz_box.proofs.Searching.{zip_from}
 use Rattle.nz_box.proofs.point.is_below.Goals as goal
 
 pub returns : goal.returns

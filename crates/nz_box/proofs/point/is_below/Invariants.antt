@@ -1,4 +1,4 @@
-use Rattle.std.proofs.Common.{◌≡◌, ◌<◌, ℕ, get_or, ◌≤ℤ◌, pos}
+use Rattle.std.proofs.Common.{◌<◌, ℕ, get_or, ◌≤ℤ◌, pos}
 use Rattle.nz_box.proofs.point.is_below.Given as goal
 
 abbrev pub invariant-loop-column : goal.invariant-loop-column

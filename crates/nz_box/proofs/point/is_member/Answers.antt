@@ -1,4 +1,4 @@
-use Rattle.std.proofs.Common.{◌≡◌, ◌<◌, List, [], length, arith, sym, subst, refl, get_or, ℕ, below_more}
+use Rattle.std.proofs.Common.{◌<◌, [], length, arith, sym, subst, refl, below_more}
 use Rattle.nz_spec.specs.Vectors.{Vector}
 use Rattle.nz_spec.specs.Systems.{IsMultipleBy}
 use Rattle.nz_box.specs.Congruences.{congruence_of, IsCongruenceRow}

@@ -1,4 +1,4 @@
-use Rattle.std.proofs.Common.{◌≡◌, ◌<◌, ℕ, get_or, []}
+use Rattle.std.proofs.Common.{◌<◌, ℕ, get_or, []}
 use Rattle.nz_spec.specs.Systems.{IsMultipleBy}
 use Rattle.nz_box.specs.Congruences.{congruence_of}
 use Rattle.nz_box.proofs.point.is_member.Given as goal

@@ -1,4 +1,4 @@
-use Rattle.std.proofs.Common.{◌≡◌, ◌<◌, ℕ, List, [], length, arith, ap, sym, ◌∙◌, subst, get_or, below_more}
+use Rattle.std.proofs.Common.{◌<◌, [], length, arith, ap, ◌∙◌, subst, get_or, below_more}
 use Rattle.nz_spec.specs.Vectors.{Vector, HasWidth}
 use Rattle.nz_order.specs.Boxes.{IsBelow}
 use Rattle.nz_box.proofs.Searching.{each_at, none_below, contains_at}

@@ -1,4 +1,4 @@
-use Rattle.std.proofs.Common.{◌≡◌, ◌<◌, ℕ, get_or, []}
+use Rattle.std.proofs.Common.{◌<◌, ℕ, get_or, []}
 use Rattle.nz_order.specs.Boxes.{IsBelow}
 use Rattle.nz_box.proofs.point.is_reduced.Given as goal
 

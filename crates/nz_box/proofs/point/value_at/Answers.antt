@@ -1,12 +1,12 @@
-use Rattle.std.proofs.Common.{◌≡◌, ◌+◌, ◌-◌, ◌*◌, ◌<◌, ◌≤◌, length, get_or, take, ℤ, pos, ◌*ℤ◌, ◌+ℤ◌, nat_abs, ap, sym, ◌∙◌, subst, arith, rules}
-use Rattle.std.specs.Prelude.{unsigned_abs, FitsSigned}
+use Rattle.std.proofs.Common.{◌≡◌, ◌+◌, ◌-◌, ◌*◌, ◌<◌, ◌≤◌, length, get_or, take, ℤ, pos, ◌*ℤ◌, ◌+ℤ◌, ap, sym, ◌∙◌, subst, arith, rules}
+use Rattle.std.specs.Prelude.{unsigned_abs}
 use Rattle.std.specs.Int.{w64, w128}
 use Rattle.std.specs.Int.Signed.{nat_abs-le}
 use Rattle.std.proofs.Math.Facts.{to_z-of_z}
 use Rattle.nz_spec.specs.Vectors.{dot}
 use Rattle.nz_box.proofs.Values.{within_at, point_fits, product_bound, product_fits, sum_fits, sum_bound, raw_product, raw_term, raw_sum, value_step}
 use Rattle.nz_box.proofs.point.value_at.Goals as goal
-use mir.Val.{SFits, to_z, of_z}
+use mir.Val.{SFits, to_z}
 
 pub overflow_mul-sum : goal.overflow_mul-sum
 overflow_mul-sum c =
@@ -17,7 +17,7 @@ overflow_mul-sum c =
     let b = get_or c.args.point.now c.loop-column.column (pos 0) in
     let fits_b = point_fits c.args.side c.args.point.now c.loop-column.column c.requires.side c.requires.inside in
     subst (λ (z : ℤ). SFits w128 z) (sym (raw_product c.from.result b fits_a fits_b))
-      (product_fits c.from.result b c.args.side small (within_at c.args.side c.args.point.now c.loop-column.column c.requires.inside) c.requires.side)
+    (product_fits c.from.result b c.args.side small (within_at c.args.side c.args.point.now c.loop-column.column c.requires.inside) c.requires.side)
 
 pub overflow_add-sum : goal.overflow_add-sum
 overflow_add-sum c =
@@ -31,7 +31,7 @@ overflow_add-sum c =
     let fits_ab = product_fits c.from.result b c.args.side small within c.requires.side in
     let s = to_z w128 c.loop-column.sum-bits in
     subst (λ (z : ℤ). SFits w128 (s +ℤ z)) (sym (raw_term c.from.result b fits_a fits_b fits_ab))
-      (sum_fits s (c.from.result *ℤ b) c.loop-column.column (omega arith) c.loop-column.invariant.small (product_bound c.from.result b c.args.side small within c.requires.side))
+    (sum_fits s (c.from.result *ℤ b) c.loop-column.column (omega arith) c.loop-column.invariant.small (product_bound c.from.result b c.args.side small within c.requires.side))
 
 pub loop-column-preserved : goal.loop-column-preserved
 loop-column-preserved c =

@@ -1,6 +1,6 @@
-use Rattle.std.proofs.Common.{◌≡◌, ◌<◌, ◌≤◌, ◌+◌, ◌^◌, ◌⊎◌, ℕ, arith}
+use Rattle.std.proofs.Common.{◌+◌, ◌^◌}
 use Rattle.nz_box.specs.Congruences.{congruence_system}
-use Rattle.nz_box.proofs.SideLaws.{crowded_side, crowded_large, not_crowded, above_million}
+use Rattle.nz_box.proofs.SideLaws.{crowded_side, crowded_large, above_million}
 use Rattle.nz_box.proofs.search.irreducibles.Goals as goal
 
 pub returns-in-None-clause-crowded : goal.returns-in-None-clause-crowded

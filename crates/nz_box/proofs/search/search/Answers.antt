@@ -1,12 +1,12 @@
-use Rattle.std.proofs.Common.{◌≡◌, ℕ, List, ◌∷◌, ◌++◌, [], length, map, sym, ap, ◌∙◌, subst, refl, ℤ}
+use Rattle.std.proofs.Common.{◌≡◌, ℕ, List, ◌∷◌, ◌++◌, [], length, map, sym, ap, ◌∙◌, subst, refl}
 use Rattle.std.specs.Prelude.{Contains}
 use Rattle.std.specs.List.{AllByRecursion as Each}
 use Rattle.std.proofs.lemmas.List.{length-replicate}
-use Rattle.nz_spec.specs.Vectors.{Vector, zero_vector, HasWidth}
+use Rattle.nz_spec.specs.Vectors.{Vector, HasWidth}
 use Rattle.nz_order.specs.Boxes.{IsWithin, Holds, IsBelow}
 use Rattle.nz_order.proofs.BoxLaws.{zero_within}
 use Rattle.nz_order.proofs.SearchLaws.{Searched, searched_zero}
-use Rattle.nz_box.specs.Congruences.{congruence_of, congruence_system, IsCongruenceRow}
+use Rattle.nz_box.specs.Congruences.{congruence_of, congruence_system}
 use Rattle.nz_box.proofs.Searching.{orthant, keeps_next, passes_reduced, passes_other, ends, kept_width, map_same}
 use Rattle.nz_box.proofs.search.search.Goals as goal
 use Rattle.nz_box.proofs.search.search.Goals.{else-is_member-via-then-is_member+else-not-is_reduced, else-is_member-via-else-is_member}
@@ -48,12 +48,12 @@ points-preserved c =
     let x' = c.advance.new.point.items in
     record {
       searched = elim c.else-is_member.branch [
-          else-is_member-via-then-is_member+else-not-is_reduced w ↦
+        | else-is_member-via-then-is_member+else-not-is_reduced w ↦
             passes_reduced c.args.width c.args.rows.now c.args.side c.requires.side.0 c.points.point.items x' c.points.list inv.width inv.inside inv.searched next
-              (subst (λ (v : Vector). (y : Vector) × Contains c.points.list y × IsBelow y v) w.deref-then-is_member.ensures.value w.if-not-is_reduced.ensures)
+            (subst (λ (v : Vector). (y : Vector) × Contains c.points.list y × IsBelow y v) w.deref-then-is_member.ensures.value w.if-not-is_reduced.ensures)
         | else-is_member-via-else-is_member w ↦
             passes_other c.args.width c.args.rows.now c.args.side c.requires.side.0 c.points.point.items x' c.points.list inv.width inv.inside inv.searched next
-              (subst (λ (v : Vector). ¬ Holds (map congruence_of c.args.rows.now) v) c.deref.ensures.value w.if-is_member.ensures)
+            (subst (λ (v : Vector). ¬ Holds (map congruence_of c.args.rows.now) v) c.deref.ensures.value w.if-is_member.ensures)
       ];
       width = next.width ∙ inv.width;
       inside = next.inside;

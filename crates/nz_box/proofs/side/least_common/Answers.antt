@@ -1,5 +1,4 @@
-use Rattle.std.proofs.Common.{◌≡◌, ◌≢◌, ◌≤◌, ◌<◌, ◌*◌, ◌+◌, ◌%◌, ℕ, arith}
-use Rattle.nz_box.specs.Steps.{IsCommon}
+use Rattle.std.proofs.Common.{◌≢◌, ◌≤◌, ◌*◌, ◌%◌, arith}
 use Rattle.std.proofs.Math.Nat.{mul-le-mul_right}
 use Rattle.nz_box.proofs.SideLaws.{factor_more, factor_first, factor_found}
 use Rattle.nz_box.proofs.side.least_common.Goals as goal

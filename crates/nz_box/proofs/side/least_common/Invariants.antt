@@ -1,4 +1,4 @@
-use Rattle.std.proofs.Common.{◌≡◌, ◌≤◌, ◌*◌, ℕ}
+use Rattle.std.proofs.Common.{◌≤◌, ◌*◌, ℕ}
 use Rattle.nz_box.specs.Steps.{IsCommon}
 use Rattle.nz_box.proofs.side.least_common.Given as goal
 

@@ -1,8 +1,7 @@
-use Rattle.std.proofs.Common.{◌≡◌, ◌≤◌, ◌<◌, ◌+◌, ◌-◌, ℕ, List, [], length, get_or, take, ℤ, pos, ap, sym, ◌∙◌, arith, rules, subst}
-use Rattle.std.proofs.lemmas.Int.{ints}
+use Rattle.std.proofs.Common.{◌<◌, [], length, ap, sym, ◌∙◌, arith, subst}
 use Rattle.nz_spec.specs.Vectors.{Vector}
 use Rattle.nz_box.specs.Congruences.{congruence_of, IsCongruenceRow}
-use Rattle.nz_box.proofs.SideLaws.{side_none, side_more, side_large, modulus_large}
+use Rattle.nz_box.proofs.SideLaws.{side_more, side_large, modulus_large}
 use Rattle.nz_box.proofs.Searching.{each_at}
 use Rattle.nz_box.proofs.side.side_of.Goals as goal
 

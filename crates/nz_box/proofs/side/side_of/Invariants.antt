@@ -1,4 +1,4 @@
-use Rattle.std.proofs.Common.{◌≡◌, ◌≤◌, ◌*◌, ℕ, take}
+use Rattle.std.proofs.Common.{◌≤◌, take}
 use Rattle.nz_box.specs.Congruences.{congruence_system}
 use Rattle.nz_box.specs.Sides.{IsSide}
 use Rattle.nz_box.proofs.side.side_of.Given as goal

@@ -10,7 +10,7 @@ use Rattle.nz_run.proofs.status_lines.put_status.Goals as goal
 pub returns-in-NotBuilt-clause-written : goal.returns-in-NotBuilt-clause-written
 returns-in-NotBuilt-clause-written g c =
     put_same (line (codes "not built: " ++ c.word.result.now)) (status_line c.args.status) c.put_text.result (g.S.Sink.written c.args.console.now) (g.S.Sink.written c.put_text.new.console)
-      (ap (λ (t : Text). line (codes "not built: " ++ t)) c.word.ensures ∙ ap status_line (sym c.in-NotBuilt.is)) c.put_text.ensures.written
+    (ap (λ (t : Text). line (codes "not built: " ++ t)) c.word.ensures ∙ ap status_line (sym c.in-NotBuilt.is)) c.put_text.ensures.written
 
 pub returns-in-Usage-clause-written : goal.returns-in-Usage-clause-written
 returns-in-Usage-clause-written g c =
