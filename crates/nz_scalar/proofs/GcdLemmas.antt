@@ -1,6 +1,6 @@
 -- Common divisors.
-use Rattle.std.proofs.Common.{◌≡◌, ◌≢◌, ◌⊎◌, inl, inr, ℕ, zero, suc, ◌<◌, ◌≤◌, ◌^◌, List, [], ◌∷◌, ℤ, pos, negsuc, ◌+ℤ◌, ◌-ℤ◌, ◌*ℤ◌, neg_ℤ, ◌≤ℤ◌, refl, sym, ap, ◌∙◌, subst, arith}
-use Rattle.std.specs.Prelude.{◌<ℤ◌, int_div, int_rem, unsigned_abs, FitsSigned, Option, Some, None, Result, Ok, Err, IsSome, is_some}
+use Rattle.std.proofs.Common.{◌≡◌, ◌≢◌, inl, inr, ℕ, zero, suc, ◌≤◌, ◌^◌, List, [], ◌∷◌, ℤ, pos, negsuc, ◌+ℤ◌, ◌-ℤ◌, ◌*ℤ◌, neg_ℤ, ◌≤ℤ◌, refl, sym, ap, ◌∙◌, subst, arith}
+use Rattle.std.specs.Prelude.{int_div, int_rem, unsigned_abs, FitsSigned, Option, Result, Ok, Err, IsSome, is_some}
 use Rattle.std.specs.Int.{Width}
 use Rattle.std.specs.Result.{OkIff, result_ok}
 use Rattle.std.proofs.lemmas.Bool.{cases_lt}
@@ -8,7 +8,7 @@ use mir.Val.{hbits}
 use Rattle.std.proofs.lemmas.Int.{ints, quot-rem}
 use Rattle.std.proofs.Math.IntN.{*ℤ-zero, zero-*ℤ}
 use Rattle.nz_spec.specs.Vectors.{IsMultipleOf}
-use Rattle.nz_spec.proofs.IntLaws.{add-mul, sub-mul, mul-sub, mul-nonneg, mul_assoc, none_or_more, multiple_zero, multiple_add, multiple_sub, multiple_mul}
+use Rattle.nz_spec.proofs.IntLaws.{sub-mul, mul-nonneg, none_or_more, multiple_zero, multiple_add, multiple_sub, multiple_mul}
 use Rattle.nz_scalar.specs.Division.{HasGcd}
 use Rattle.nz_scalar.specs.Exact.{GivesSuch}
 

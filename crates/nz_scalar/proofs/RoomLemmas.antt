@@ -1,10 +1,10 @@
 -- What follows where a type has room: sums of products of numbers within h, their opposites and their common divisors are values.
-use Rattle.std.proofs.Common.{◌≡◌, ◌≢◌, ◌⊎◌, inl, inr, List, [], ◌∷◌, ℤ, pos, ◌+ℤ◌, ◌-ℤ◌, ◌*ℤ◌, neg_ℤ, ◌≤ℤ◌, refl, sym, ap, ◌∙◌, subst, arith}
+use Rattle.std.proofs.Common.{◌≡◌, ◌≢◌, ◌⊎◌, inl, inr, List, [], ◌∷◌, ℤ, pos, ◌+ℤ◌, ◌-ℤ◌, ◌*ℤ◌, neg_ℤ, ◌≤ℤ◌, sym, ap, ◌∙◌, subst, arith}
 use Rattle.std.specs.List.{AllByRecursion as Each}
 use Rattle.std.proofs.lemmas.Int.{ints}
 use Rattle.std.proofs.Math.IntN.{*ℤ-zero, zero-*ℤ}
 use Rattle.nz_spec.specs.Vectors.{IsMultipleOf}
-use Rattle.nz_spec.proofs.IntLaws.{sub-mul, zero_or_one, int_cases}
+use Rattle.nz_spec.proofs.IntLaws.{sub-mul, int_cases}
 use Rattle.nz_scalar.specs.Division.{HasGcd}
 use Rattle.nz_scalar.specs.Room.{IsWithin, HasRoom}
 use Rattle.nz_scalar.proofs.GcdLemmas.{multiple_neg, divisor_le}

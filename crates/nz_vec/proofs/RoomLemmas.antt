@@ -1,5 +1,5 @@
 -- Where a type has room, rows of numbers within h can be combined and then made primitive.
-use Rattle.std.proofs.Common.{[], ◌∷◌, ℤ, pos, ◌≤ℤ◌, arith}
+use Rattle.std.proofs.Common.{[], ◌∷◌, ℤ}
 use Rattle.std.specs.List.{AllByRecursion as Each}
 use Rattle.nz_spec.specs.Vectors.{Vector, plus, scaled}
 use Rattle.nz_scalar.specs.Room.{IsWithin, HasRoom}

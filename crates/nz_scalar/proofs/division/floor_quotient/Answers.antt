@@ -1,6 +1,5 @@
-use Rattle.std.proofs.Common.{◌≡◌, ℤ, pos, ◌-ℤ◌, Some, None, refl, inl, inr, sym, ap, ◌∙◌, subst}
-use Rattle.std.specs.Prelude.{int_div, int_rem}
-use Rattle.nz_scalar.specs.Exact.{GivesSuch}
+use Rattle.std.proofs.Common.{ℤ, pos, ◌-ℤ◌, Some, None, refl, inl, inr, sym, ap, ◌∙◌, subst}
+use Rattle.std.specs.Prelude.{int_div}
 use Rattle.nz_scalar.specs.Division.{IsFloorQuotient, RoundsUp}
 use Rattle.nz_scalar.proofs.FloorLemmas.{no_floor, floor_exact, floor_less, floor_fits, such_of_checks, some_of_checks}
 use Rattle.nz_scalar.proofs.division.floor_quotient.Goals as goal

@@ -7,10 +7,10 @@ returns-in-None g c = λ e h. combined_none g.T.Scalar.integer _ _ c.args.u.now 
 
 pub loop-i-preserved : goal.loop-i-preserved
 loop-i-preserved g c = (
-    c.push_reserved.ensures.len ∙ ap (λ n. n + 1) c.loop-i.invariant.0,
-    c.push_reserved.ensures.capacity ∙ c.loop-i.invariant.1,
-    combined_more g.T.Scalar.integer _ _ c.args.u.now c.args.v.now c.requires c.loop-i.entries.items _ c.loop-i.i c.index-u-i.result c.index-v-i.result c.in-Some.entry c.loop-i-test.true c.index-u-i.is c.index-v-i.is c.loop-i.invariant.2 c.in-Some.ensures c.push_reserved.ensures.items,
-  )
+  c.push_reserved.ensures.len ∙ ap (λ n. n + 1) c.loop-i.invariant.0,
+  c.push_reserved.ensures.capacity ∙ c.loop-i.invariant.1,
+  combined_more g.T.Scalar.integer _ _ c.args.u.now c.args.v.now c.requires c.loop-i.entries.items _ c.loop-i.i c.index-u-i.result c.index-v-i.result c.in-Some.entry c.loop-i-test.true c.index-u-i.is c.index-v-i.is c.loop-i.invariant.2 c.in-Some.ensures c.push_reserved.ensures.items,
+)
 
 pub returns : goal.returns
 returns g c = combined_end g.T.Scalar.integer _ _ c.args.u.now c.args.v.now c.requires c.loop-i.entries.items c.loop-i.i c.loop-i-test.false c.loop-i.invariant.2
