@@ -1,12 +1,12 @@
 -- The quotient toward zero, and the greatest integer not above the quotient.
-use Rattle.std.proofs.Common.{◌≡◌, ◌≢◌, ◌⊎◌, inl, inr, ℕ, zero, suc, ◌<◌, ◌%◌, ℤ, pos, negsuc, ◌+ℤ◌, ◌-ℤ◌, ◌*ℤ◌, neg_ℤ, ◌≤ℤ◌, refl, sym, ap, ◌∙◌, subst, arith}
+use Rattle.std.proofs.Common.{◌≡◌, ◌≢◌, ◌⊎◌, inl, inr, ℕ, zero, suc, ◌<◌, ◌%◌, ℤ, pos, negsuc, ◌+ℤ◌, ◌-ℤ◌, ◌*ℤ◌, neg_ℤ, ◌≤ℤ◌, refl, sym, ◌∙◌, subst, arith}
 use Rattle.std.specs.Prelude.{◌<ℤ◌, int_div, int_rem, unsigned_abs}
 use Rattle.std.proofs.lemmas.Int.{ints, quot-rem, rem_below}
 use Rattle.std.proofs.Math.IntN.{*ℤ-zero, zero-*ℤ}
 use Rattle.nz_spec.proofs.IntLaws.{add-mul, sub-mul, mul-sub, mul-nonneg, none_or_more, int_cases}
 use Rattle.std.specs.Prelude.{Option, Some, None, IsSome}
 use Rattle.num_traits.specs.Laws.{Checks}
-use Rattle.nz_scalar.specs.Division.{IsFloor, RoundsUp}
+use Rattle.nz_scalar.specs.Division.{IsFloorQuotient, RoundsUp}
 use Rattle.nz_scalar.specs.Exact.{GivesSuch}
 
 below_of_mul : (x y b : ℤ) → pos 0 <ℤ b → (x *ℤ b) <ℤ (y *ℤ b) → x <ℤ y
@@ -27,7 +27,7 @@ sign_of (pos (suc n)) h = inl (omega (arith, ints))
 sign_of (negsuc n) h = inr (omega (arith, ints))
 
 -- a quotient has one floor
-pub floor_unique : (a b p q : ℤ) → b ≢ pos 0 → IsFloor a b p → IsFloor a b q → p ≡ q
+pub floor_unique : (a b p q : ℤ) → b ≢ pos 0 → IsFloorQuotient a b p → IsFloorQuotient a b q → p ≡ q
 floor_unique a b p q ne h k = elim (sign_of b ne) [
   | inl up ↦
       let x = below_of_mul p (q +ℤ pos 1) b up (omega (arith, ints, (h.above up).0, (k.above up).1)) in
@@ -87,7 +87,7 @@ module _ (a b : ℤ) (ne : b ≢ pos 0) where
   sum : int_div a b *ℤ b +ℤ int_rem a b ≡ a
   sum = quot-rem a b
 
-  pub floor_exact : (RoundsUp (int_rem a b) b → ⊥) → IsFloor a b (int_div a b)
+  pub floor_exact : (RoundsUp (int_rem a b) b → ⊥) → IsFloorQuotient a b (int_div a b)
   floor_exact h = record {
     above = λ p.
         let w = bounds_above (int_rem a b) b (rem_below a b (size_pos b ne)) p in
@@ -99,7 +99,7 @@ module _ (a b : ℤ) (ne : b ≢ pos 0) where
         (omega (arith, ints, sum, down), omega (arith, ints, sum, w.0, add-mul (int_div a b) (pos 1) b));
   }
 
-  pub floor_less : RoundsUp (int_rem a b) b → IsFloor a b (int_div a b -ℤ pos 1)
+  pub floor_less : RoundsUp (int_rem a b) b → IsFloorQuotient a b (int_div a b -ℤ pos 1)
   floor_less h = record {
     above = λ p.
         let w = bounds_above (int_rem a b) b (rem_below a b (size_pos b ne)) p in
@@ -145,7 +145,7 @@ module _ (a b : ℤ) (ne : b ≢ pos 0) where
       omega (arith, ints, low, m, e, add-mul (int_div a b -ℤ pos 1) (pos 1) b, sub-mul (int_div a b) (pos 1) b)
 
   -- where the quotient toward zero is no value of the type, the floor is none
-  pub no_floor : (fits : ℤ → Type 0) → ((m n k : ℤ) → fits m → fits k → m ≤ℤ n → n ≤ℤ k → fits n) → fits (pos 0) → (fits (int_div a b) → ⊥) → (z : ℤ) → IsFloor a b z → fits z → ⊥
+  pub no_floor : (fits : ℤ → Type 0) → ((m n k : ℤ) → fits m → fits k → m ≤ℤ n → n ≤ℤ k → fits n) → fits (pos 0) → (fits (int_div a b) → ⊥) → (z : ℤ) → IsFloorQuotient a b z → fits z → ⊥
   no_floor fits between zero_fits none z is f = elim (rounding (int_rem a b) b) [
     | inr exact ↦ none (subst fits (floor_unique a b z (int_div a b) ne is (floor_exact exact)) f)
     | inl up ↦
@@ -158,9 +158,9 @@ module _ (a b : ℤ) (ne : b ≢ pos 0) where
   floor_fits fits between zero_fits fa p up = between a (int_div a b -ℤ pos 1) (pos 0) fa zero_fits (less_is_above p up) (let h = less_is_nonpos up in omega (arith, ints, h))
 
 -- a checked answer that is the floor
-pub such_of_checks : {T : Type 0} (value : T → ℤ) (fits : ℤ → Type 0) (r : Option T) (y z : ℤ) → y ≡ z → Checks value fits y r → (a b : ℤ) → b ≢ pos 0 → IsFloor a b z → GivesSuch value fits r (IsFloor a b)
+pub such_of_checks : {T : Type 0} (value : T → ℤ) (fits : ℤ → Type 0) (r : Option T) (y z : ℤ) → y ≡ z → Checks value fits y r → (a b : ℤ) → b ≢ pos 0 → IsFloorQuotient a b z → GivesSuch value fits r (IsFloorQuotient a b)
 such_of_checks value fits None y z e h a b ne is = λ x k f. h (subst fits (floor_unique a b x z ne k is ∙ sym e) f)
-such_of_checks value fits (Some x) y z e h a b ne is = (subst fits (sym h.1) h.0, subst (λ (x : ℤ). IsFloor a b x) (sym (h.1 ∙ e)) is)
+such_of_checks value fits (Some x) y z e h a b ne is = (subst fits (sym h.1) h.0, subst (λ (x : ℤ). IsFloorQuotient a b x) (sym (h.1 ∙ e)) is)
 
 pub some_of_checks : {T : Type 0} (value : T → ℤ) (fits : ℤ → Type 0) (r : Option T) (y z : ℤ) → y ≡ z → Checks value fits y r → fits z → IsSome r
 some_of_checks value fits None y z e h f = absurd (h (subst fits (sym e) f))

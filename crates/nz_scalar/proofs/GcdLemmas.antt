@@ -1,6 +1,6 @@
 -- Common divisors.
-use Rattle.std.proofs.Common.{◌≡◌, ◌≢◌, ◌⊎◌, inl, inr, ℕ, zero, suc, ◌<◌, ◌≤◌, ◌^◌, List, [], ◌∷◌, ℤ, pos, negsuc, ◌+ℤ◌, ◌-ℤ◌, ◌*ℤ◌, neg_ℤ, ◌≤ℤ◌, refl, sym, ap, ◌∙◌, subst, arith}
-use Rattle.std.specs.Prelude.{◌<ℤ◌, int_div, int_rem, unsigned_abs, FitsSigned, Option, Some, None, Result, Ok, Err, IsSome, is_some}
+use Rattle.std.proofs.Common.{◌≡◌, ◌≢◌, inl, inr, ℕ, zero, suc, ◌≤◌, ◌^◌, List, [], ◌∷◌, ℤ, pos, negsuc, ◌+ℤ◌, ◌-ℤ◌, ◌*ℤ◌, neg_ℤ, ◌≤ℤ◌, refl, sym, ap, ◌∙◌, subst, arith}
+use Rattle.std.specs.Prelude.{int_div, int_rem, unsigned_abs, FitsSigned, Option, Result, Ok, Err, IsSome, is_some}
 use Rattle.std.specs.Int.{Width}
 use Rattle.std.specs.Result.{OkIff, result_ok}
 use Rattle.std.proofs.lemmas.Bool.{cases_lt}
@@ -8,8 +8,8 @@ use mir.Val.{hbits}
 use Rattle.std.proofs.lemmas.Int.{ints, quot-rem}
 use Rattle.std.proofs.Math.IntN.{*ℤ-zero, zero-*ℤ}
 use Rattle.nz_spec.specs.Vectors.{IsMultipleOf}
-use Rattle.nz_spec.proofs.IntLaws.{add-mul, sub-mul, mul-sub, mul-nonneg, mul_assoc, none_or_more, multiple_zero, multiple_add, multiple_sub, multiple_mul}
-use Rattle.nz_scalar.specs.Division.{IsGcdOf}
+use Rattle.nz_spec.proofs.IntLaws.{sub-mul, mul-nonneg, none_or_more, multiple_zero, multiple_add, multiple_sub, multiple_mul}
+use Rattle.nz_scalar.specs.Division.{HasGcd}
 use Rattle.nz_scalar.specs.Exact.{GivesSuch}
 
 pub multiple_self : (m : ℤ) → IsMultipleOf m m
@@ -40,7 +40,7 @@ divisors_step a b x y r e h =
     }
 
 -- where y has come down to 0, x is the gcd
-pub divisors_end : (a b x y : ℤ) → y ≡ pos 0 → pos 0 ≤ℤ x → SameDivisors a b x y → IsGcdOf (a ∷ b ∷ []) x
+pub divisors_end : (a b x y : ℤ) → y ≡ pos 0 → pos 0 ≤ℤ x → SameDivisors a b x y → HasGcd (a ∷ b ∷ []) x
 divisors_end a b x y e up h =
     let d = h.backward x (multiple_self x) (subst (λ (z : ℤ). IsMultipleOf x z) (sym e) (multiple_zero x)) in
     record {
@@ -73,7 +73,7 @@ divisor_same (negsuc m) e p q h k = absurd (let f : ⊥ = omega (arith, ints, p)
 divisor_same d (negsuc n) p q h k = absurd (let f : ⊥ = omega (arith, ints, q) in f)
 
 -- there is one gcd
-pub gcd_unique : (xs : List ℤ) (d e : ℤ) → IsGcdOf xs d → IsGcdOf xs e → d ≡ e
+pub gcd_unique : (xs : List ℤ) (d e : ℤ) → HasGcd xs d → HasGcd xs e → d ≡ e
 gcd_unique xs d e h k = divisor_same d e h.nonneg k.nonneg (k.greatest d h.divides) (h.greatest e k.divides)
 
 of_abs : (k a : ℤ) → IsMultipleOf k (pos (unsigned_abs a)) → IsMultipleOf k a
@@ -85,7 +85,7 @@ to_abs k (pos n) h = h
 to_abs k (negsuc n) h = multiple_neg k (negsuc n) h
 
 -- the gcd of two numbers is that of their absolute values
-pub gcd_of_sizes : (a b : ℤ) (m n : ℕ) (d : ℤ) → m ≡ unsigned_abs a → n ≡ unsigned_abs b → IsGcdOf (pos m ∷ pos n ∷ []) d → IsGcdOf (a ∷ b ∷ []) d
+pub gcd_of_sizes : (a b : ℤ) (m n : ℕ) (d : ℤ) → m ≡ unsigned_abs a → n ≡ unsigned_abs b → HasGcd (pos m ∷ pos n ∷ []) d → HasGcd (a ∷ b ∷ []) d
 gcd_of_sizes a b m n d e f h =
     let from : (k c : ℤ) (l : ℕ) → l ≡ unsigned_abs c → IsMultipleOf k (pos l) → IsMultipleOf k c = λ k c l g p. of_abs k c (subst (λ (i : ℕ). IsMultipleOf k (pos i)) g p) in
     let to : (k c : ℤ) (l : ℕ) → l ≡ unsigned_abs c → IsMultipleOf k c → IsMultipleOf k (pos l) = λ k c l g p. subst (λ (i : ℕ). IsMultipleOf k (pos i)) (sym g) (to_abs k c p) in
@@ -107,16 +107,16 @@ least_of w (pos (suc n)) d f ne h k = let l = divisor_le (pos d) (pos (suc n)) (
 least_of w (negsuc n) d f ne h k = let l = divisor_le (pos d) (pos (suc n)) (omega (arith, ints)) (omega (arith, ints)) (to_abs (pos d) (negsuc n) h) in let s = f.sfits in omega (arith, ints, l, s, k)
 
 -- two different numbers other than 0 have a gcd in the type
-pub gcd_fits : (w : Width) (a b : ℤ) (d : ℕ) → FitsSigned w a → FitsSigned w b → IsGcdOf (a ∷ b ∷ []) (pos d) → a ≢ pos 0 → b ≢ pos 0 → a ≢ b → FitsSigned w (pos d)
+pub gcd_fits : (w : Width) (a b : ℤ) (d : ℕ) → FitsSigned w a → FitsSigned w b → HasGcd (a ∷ b ∷ []) (pos d) → a ≢ pos 0 → b ≢ pos 0 → a ≢ b → FitsSigned w (pos d)
 gcd_fits w a b d fa fb h na nb ne = elim (cases_lt d (2 ^ hbits w)) [
   | inl s ↦ record { sfits = s }
   | inr s ↦ absurd (ne (least_of w a d fa na h.divides.0 s ∙ sym (least_of w b d fb nb h.divides.1.0 s)))
 ]
 
 -- the answer of a conversion, where it is asked for the gcd
-pub such_of_result : {E : Type 0} (fits : ℤ → Type 0) (o : Option ℤ) (r : Result ℤ E) (xs : List ℤ) (d : ℤ) → o ≡ result_ok r → OkIff r (fits d) d → IsGcdOf xs d → GivesSuch (λ n. n) fits o (IsGcdOf xs)
-such_of_result fits o (Ok x) xs d e h is = subst (λ p. GivesSuch (λ n. n) fits p (IsGcdOf xs)) (sym e) (subst fits (sym h.1) h.0, subst (λ z. IsGcdOf xs z) (sym h.1) is)
-such_of_result fits o (Err x) xs d e h is = subst (λ p. GivesSuch (λ n. n) fits p (IsGcdOf xs)) (sym e) (λ z k f. h (subst fits (gcd_unique xs z d k is) f))
+pub such_of_result : {E : Type 0} (fits : ℤ → Type 0) (o : Option ℤ) (r : Result ℤ E) (xs : List ℤ) (d : ℤ) → o ≡ result_ok r → OkIff r (fits d) d → HasGcd xs d → GivesSuch (λ n. n) fits o (HasGcd xs)
+such_of_result fits o (Ok x) xs d e h is = subst (λ p. GivesSuch (λ n. n) fits p (HasGcd xs)) (sym e) (subst fits (sym h.1) h.0, subst (λ z. HasGcd xs z) (sym h.1) is)
+such_of_result fits o (Err x) xs d e h is = subst (λ p. GivesSuch (λ n. n) fits p (HasGcd xs)) (sym e) (λ z k f. h (subst fits (gcd_unique xs z d k is) f))
 
 pub some_of_result : {E : Type 0} (fits : ℤ → Type 0) (o : Option ℤ) (r : Result ℤ E) (d : ℤ) → o ≡ result_ok r → OkIff r (fits d) d → fits d → IsSome o
 some_of_result fits o (Ok x) d e h f = ap is_some e

@@ -1,15 +1,15 @@
 -- Quotients and common divisors.
-use Rattle.std.specs.Prelude.{◌≡◌, ◌⊎◌, ℤ, pos, ◌+ℤ◌, ◌*ℤ◌, ◌≤ℤ◌, ◌<ℤ◌, List}
+use Rattle.std.specs.Prelude.{◌⊎◌, ℤ, pos, ◌+ℤ◌, ◌*ℤ◌, ◌≤ℤ◌, ◌<ℤ◌, List}
 use Rattle.std.specs.List.{AllByRecursion as Each}
 use Rattle.nz_spec.specs.Vectors.{IsMultipleOf}
 
 -- q is the greatest integer not above a / b: a / b is at least q and below q + 1
-pub record IsFloor (a b q : ℤ) : Type 0 where
+pub record IsFloorQuotient (a b q : ℤ) : Type 0 where
   pub above : pos 0 <ℤ b → ((q *ℤ b) ≤ℤ a) × (a <ℤ ((q +ℤ pos 1) *ℤ b))
   pub below : b <ℤ pos 0 → (a ≤ℤ (q *ℤ b)) × (((q +ℤ pos 1) *ℤ b) <ℤ a)
 
--- d is the greatest common divisor: at least 0, it divides each, and what divides each divides it
-pub record IsGcdOf (xs : List ℤ) (d : ℤ) : Type 0 where
+-- the numbers have the greatest common divisor d: it is at least 0 and divides each, and what divides each divides it
+pub record HasGcd (xs : List ℤ) (d : ℤ) : Type 0 where
   pub nonneg : pos 0 ≤ℤ d
   pub divides : Each (IsMultipleOf d) xs
   pub greatest : (k : ℤ) → Each (IsMultipleOf k) xs → IsMultipleOf k d

@@ -1,7 +1,7 @@
 // Division for every width at once.
 ghost use Rattle.std.specs.Prelude.{◌≢◌, pos, ◌∷◌, [], ◌<ℤ◌, IsSome, IsTrue, ◌↔◌};
 ghost use Rattle.nz_scalar.specs.Exact.{GivesSuch};
-ghost use Rattle.nz_scalar.specs.Division.{IsFloor, IsGcdOf, RoundsUp};
+ghost use Rattle.nz_scalar.specs.Division.{IsFloorQuotient, HasGcd, RoundsUp};
 
 use num_traits::{PrimInt, Unsigned};
 
@@ -10,7 +10,7 @@ pub(crate) fn floor_quotient<N: PrimInt>(a: N, by: N) -> Option<N>
     requires nonzero { N.value by ≢ pos 0 }
     requires number { N.fits (N.value a) }
     requires divisor { N.fits (N.value by) }
-    ensures value { GivesSuch N.value N.fits result (IsFloor (N.value a) (N.value by)) }
+    ensures value { GivesSuch N.value N.fits result (IsFloorQuotient (N.value a) (N.value by)) }
     ensures some { pos 0 <ℤ N.value by → IsSome result }
 {
     let quotient = match a.checked_div(&by) {
@@ -40,7 +40,7 @@ fn rounds_up<N: PrimInt>(rest: N, by: N) -> bool
 pub(crate) fn common_divisor<N: PrimInt + Unsigned>(a: N, b: N) -> N
     requires first { N.fits (N.value a) }
     requires second { N.fits (N.value b) }
-    ensures { IsGcdOf (N.value a ∷ N.value b ∷ []) (N.value result) }
+    ensures { HasGcd (N.value a ∷ N.value b ∷ []) (N.value result) }
 {
     let mut x = a;
     let mut y = b;

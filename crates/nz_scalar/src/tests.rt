@@ -15,9 +15,15 @@ fn divides<T: Scalar>(rt: &impl Abort) {
         let [a, by, floor, gcd] = case;
         assert!(rt; by != 0);
         let quotient = T::of_i64(a).floor_div(T::of_i64(by));
-        assert!(rt; quotient.map(|q| q.to_i128()) == Some(i128::from(floor)), "{a} by {by}");
+        assert!(rt;
+            quotient.map(|q| q.to_i128()) == Some(i128::from(floor)),
+            "{a} by {by}"
+        );
         let divisor = T::of_i64(a).gcd(T::of_i64(by));
-        assert!(rt; divisor.map(|d| d.to_i128()) == Some(i128::from(gcd)), "{a} and {by}");
+        assert!(rt;
+            divisor.map(|d| d.to_i128()) == Some(i128::from(gcd)),
+            "{a} and {by}"
+        );
     }
 }
 

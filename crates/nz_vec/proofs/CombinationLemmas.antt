@@ -40,14 +40,14 @@ module _ {T : Type 0} (int : T → ℤ) (a b : ℤ) (us vs : List T) (same : len
       let fit = fits_at a b fits (map int us) (map int vs) i lu (omega (arith, lengths, lu)) h in
       none (term_along fits a b _ _ _ _ (sym (at_map int us i x l p)) (sym (at_map int vs i y (omega (arith, same, l)) q)) fit)
 
-  pub combined_more : (done : List T) (i : ℕ) (x y r : T) → i < length us → x ≡ get_or us i x → y ≡ get_or vs i y → map int done ≡ take i (plus (scaled a (map int us)) (scaled b (map int vs))) → int r ≡ a *ℤ int x +ℤ b *ℤ int y → map int (done ++ r ∷ []) ≡ take (i + 1) (plus (scaled a (map int us)) (scaled b (map int vs)))
-  combined_more done i x y r l p q h e =
+  pub combined_more : (done next : List T) (i : ℕ) (x y r : T) → i < length us → x ≡ get_or us i x → y ≡ get_or vs i y → map int done ≡ take i (plus (scaled a (map int us)) (scaled b (map int vs))) → int r ≡ a *ℤ int x +ℤ b *ℤ int y → next ≡ done ++ r ∷ [] → map int next ≡ take (i + 1) (plus (scaled a (map int us)) (scaled b (map int vs)))
+  combined_more done next i x y r l p q h e n =
       let lu : i < length (map int us) = omega (arith, length-map us int, l) in
       let lv : i < length (map int vs) = omega (arith, lengths, lu) in
       let s = at_map int us i x l p in
       let t = at_map int vs i y (omega (arith, same, l)) q in
       let sum : a *ℤ int x +ℤ b *ℤ int y ≡ a *ℤ get_or (map int us) i (pos 0) +ℤ b *ℤ get_or (map int vs) i (pos 0) = cc in
-      pushed int done r (plus (scaled a (map int us)) (scaled b (map int vs))) i (omega (arith, combined_length a b (map int us) (map int vs) lengths, lu)) h (e ∙ sum ∙ sym (combined_at a b (map int us) (map int vs) i lu lv))
+      ap (map int) n ∙ pushed int done r (plus (scaled a (map int us)) (scaled b (map int vs))) i (omega (arith, combined_length a b (map int us) (map int vs) lengths, lu)) h (e ∙ sum ∙ sym (combined_at a b (map int us) (map int vs) i lu lv))
 
   pub combined_end : (done : List T) (i : ℕ) → length us ≤ i → map int done ≡ take i (plus (scaled a (map int us)) (scaled b (map int vs))) → map int done ≡ plus (scaled a (map int us)) (scaled b (map int vs))
   combined_end done i l h = h ∙ take_all i _ (omega (arith, combined_length a b (map int us) (map int vs) lengths, length-map us int, l))

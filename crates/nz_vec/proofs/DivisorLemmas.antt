@@ -8,9 +8,9 @@ use Rattle.std.proofs.Math.IntN.{*ℤ_comm, *ℤ-zero}
 use Rattle.nz_spec.specs.Vectors.{Vector, scaled, IsZero, IsMultipleOf}
 use Rattle.nz_spec.proofs.IntLaws.{add-mul, sub-mul, mul_assoc, multiple_zero, multiple_mul, zero_product, zero_or_one}
 use Rattle.nz_scalar.specs.Exact.{GivesSuch}
-use Rattle.nz_scalar.specs.Division.{IsFloor, IsGcdOf}
+use Rattle.nz_scalar.specs.Division.{IsFloorQuotient, HasGcd}
 use Rattle.nz_scalar.proofs.FloorLemmas.{floor_unique}
-use Rattle.nz_vec.specs.Primitives.{HasDivisorsOf, IsPrimitiveOf}
+use Rattle.nz_vec.specs.Primitives.{HasDivisorsOf, IsPrimitivePart}
 use Rattle.nz_vec.proofs.SumsLemmas.{at_map}
 
 pub multiple_trans : (k m z : ℤ) → IsMultipleOf m z → IsMultipleOf k m → IsMultipleOf k z
@@ -35,7 +35,7 @@ joint_zero h e is k = ((λ p. (p, (subst (λ (z : ℤ). IsMultipleOf k z) (sym i
 pub joint_start : (h e : ℤ) → h ≡ pos 0 → HasDivisorsOf (h ∷ e ∷ []) e
 joint_start h e is k = ((λ p. (subst (λ (z : ℤ). IsMultipleOf k z) (sym is) (multiple_zero k), (p, tt))), (λ p. p.1.0))
 
-pub joint_gcd : (h e d : ℤ) → IsGcdOf (h ∷ e ∷ []) d → HasDivisorsOf (h ∷ e ∷ []) d
+pub joint_gcd : (h e d : ℤ) → HasGcd (h ∷ e ∷ []) d → HasDivisorsOf (h ∷ e ∷ []) d
 joint_gcd h e d is k = ((λ p. (multiple_trans k d h is.divides.0 p, (multiple_trans k d e is.divides.1.0 p, tt))), (λ p. is.greatest k p))
 
 -- ---- a list of numbers
@@ -49,15 +49,15 @@ divisors_more xs i x h d l e p q =
     subst (λ (ys : List ℤ). HasDivisorsOf ys d) (sym whole)
     (λ k. ((λ r. let s = (q k).0 r in each_push (IsMultipleOf k) (take i xs) x ((p k).0 s.0) s.1.0), (λ r. let s = each_front (IsMultipleOf k) (take i xs) x r in (q k).1 ((p k).1 s.0, (s.1, tt)))))
 
-gcd_of_held : (xs : List ℤ) (h d : ℤ) → HasDivisorsOf xs h → IsGcdOf (h ∷ pos 0 ∷ []) d → IsGcdOf xs d
+gcd_of_held : (xs : List ℤ) (h d : ℤ) → HasDivisorsOf xs h → HasGcd (h ∷ pos 0 ∷ []) d → HasGcd xs d
 gcd_of_held xs h d p is = record { nonneg = is.nonneg; divides = (p d).0 is.divides.0; greatest = λ k q. is.greatest k ((p k).1 q, (multiple_zero k, tt)) }
 
-held_of_gcd : (xs : List ℤ) (h d : ℤ) → HasDivisorsOf xs h → IsGcdOf xs d → IsGcdOf (h ∷ pos 0 ∷ []) d
+held_of_gcd : (xs : List ℤ) (h d : ℤ) → HasDivisorsOf xs h → HasGcd xs d → HasGcd (h ∷ pos 0 ∷ []) d
 held_of_gcd xs h d p is = record { nonneg = is.nonneg; divides = ((p d).1 is.divides, (multiple_zero d, tt)); greatest = λ k q. is.greatest k ((p k).0 q.0) }
 
-pub such_of_held : {T : Type 0} (integer : T → ℤ) (fits : ℤ → Type 0) (r : Option T) (xs : List ℤ) (h z : ℤ) → z ≡ pos 0 → HasDivisorsOf xs h → GivesSuch integer fits r (IsGcdOf (h ∷ z ∷ [])) → GivesSuch integer fits r (IsGcdOf xs)
-such_of_held integer fits None xs h z e p is = λ d k. is d (subst (λ (y : ℤ). IsGcdOf (h ∷ y ∷ []) d) (sym e) (held_of_gcd xs h d p k))
-such_of_held integer fits (Some x) xs h z e p is = (is.0, gcd_of_held xs h (integer x) p (subst (λ (y : ℤ). IsGcdOf (h ∷ y ∷ []) (integer x)) e is.1))
+pub such_of_held : {T : Type 0} (integer : T → ℤ) (fits : ℤ → Type 0) (r : Option T) (xs : List ℤ) (h z : ℤ) → z ≡ pos 0 → HasDivisorsOf xs h → GivesSuch integer fits r (HasGcd (h ∷ z ∷ [])) → GivesSuch integer fits r (HasGcd xs)
+such_of_held integer fits None xs h z e p is = λ d k. is d (subst (λ (y : ℤ). HasGcd (h ∷ y ∷ []) d) (sym e) (held_of_gcd xs h d p k))
+such_of_held integer fits (Some x) xs h z e p is = (is.0, gcd_of_held xs h (integer x) p (subst (λ (y : ℤ). HasGcd (h ∷ y ∷ []) (integer x)) e is.1))
 
 -- ---- the answer of a checked call that is known to be some
 
@@ -67,9 +67,9 @@ such_of_some integer fits r x P e is = (subst (λ (o : Option _). GivesSuch inte
 -- ---- quotients
 
 -- the floor of a quotient that is whole
-floor_whole : (x b q : ℤ) → pos 0 <ℤ b → IsMultipleOf b x → IsFloor x b q → x ≡ b *ℤ q
+floor_whole : (x b q : ℤ) → pos 0 <ℤ b → IsMultipleOf b x → IsFloorQuotient x b q → x ≡ b *ℤ q
 floor_whole x b q p m is =
-    let floor : IsFloor x b m.0 = record {
+    let floor : IsFloorQuotient x b m.0 = record {
       above = λ u. let e = m.1 in (omega (arith, ints, e), omega (arith, ints, e, add-mul m.0 (pos 1) b));
       below = λ u. absurd (let f : ⊥ = omega (arith, ints, u, p) in f);
     } in
@@ -82,11 +82,11 @@ each_at P (x ∷ xs) zero l h = h.0
 each_at P (x ∷ xs) (suc i) l h = each_at P xs i (omega arith) h.1
 
 -- one more quotient
-pub quotient_more : {T : Type 0} (int : T → ℤ) (fits : ℤ → Type 0) (es done next : List T) (e q : T) (o : Option T) (b : ℤ) (i : ℕ) → i < length es → e ≡ get_or es i e → pos 0 <ℤ b → Each (IsMultipleOf b) (map int es) → take i (map int es) ≡ scaled b (map int done) → o ≡ Some q → GivesSuch int fits o (IsFloor (int e) b) → next ≡ done ++ q ∷ [] → take (i + 1) (map int es) ≡ scaled b (map int next)
+pub quotient_more : {T : Type 0} (int : T → ℤ) (fits : ℤ → Type 0) (es done next : List T) (e q : T) (o : Option T) (b : ℤ) (i : ℕ) → i < length es → e ≡ get_or es i e → pos 0 <ℤ b → Each (IsMultipleOf b) (map int es) → take i (map int es) ≡ scaled b (map int done) → o ≡ Some q → GivesSuch int fits o (IsFloorQuotient (int e) b) → next ≡ done ++ q ∷ [] → take (i + 1) (map int es) ≡ scaled b (map int next)
 quotient_more int fits es done next e q o b i l is_at p m h some is n =
     let xs = map int es in
     let lx : i < length (map int es) = omega (arith, length-map es int, l) in
-    let floor = subst (λ (z : ℤ). IsFloor z b (int q)) (at_map int es i e l is_at) (such_of_some int fits o q (IsFloor (int e) b) some is) in
+    let floor = subst (λ (z : ℤ). IsFloorQuotient z b (int q)) (at_map int es i e l is_at) (such_of_some int fits o q (IsFloorQuotient (int e) b) some is) in
     let x = floor_whole (get_or xs i (pos 0)) b (int q) p (each_at (IsMultipleOf b) xs i lx m) floor in
     take_more xs i (pos 0) lx ∙ ap (λ (ys : List ℤ). ys ++ get_or xs i (pos 0) ∷ []) h ∙ ap (λ (z : ℤ). scaled b (map int done) ++ z ∷ []) x
     ∙ sym (map-append (λ a. b *ℤ a) (map int done) (int q ∷ [])) ∙ ap (scaled b) (sym (map-append int done (q ∷ []))) ∙ ap (λ ts. scaled b (map int ts)) (sym n)
@@ -100,7 +100,7 @@ scaled_divides d g (a ∷ r) h =
     ((h.0.0, e), scaled_divides d g r h.1)
 
 -- what is left of a row after division by its gcd is primitive
-pub primitive_of : (x r : Vector) (g : ℤ) → pos 1 ≤ℤ g → IsGcdOf x g → x ≡ scaled g r → IsPrimitiveOf x r
+pub primitive_of : (x r : Vector) (g : ℤ) → pos 1 ≤ℤ g → HasGcd x g → x ≡ scaled g r → IsPrimitivePart x r
 primitive_of x r g p is e = record {
   divisor = g;
   positive = p;
@@ -121,7 +121,7 @@ zero_of_divisors [] h = tt
 zero_of_divisors (a ∷ x) h = (h.0.1 ∙ *ℤ-zero h.0.0, zero_of_divisors x h.1)
 
 -- a row whose gcd is 0 or 1 stays as it is
-pub primitive_same : (x r : Vector) (g : ℤ) → g ≤ℤ pos 1 → IsGcdOf x g → r ≡ x → IsPrimitiveOf x r
+pub primitive_same : (x r : Vector) (g : ℤ) → g ≤ℤ pos 1 → HasGcd x g → r ≡ x → IsPrimitivePart x r
 primitive_same x r g l is e = record {
   divisor = pos 1;
   positive = omega (arith, ints);
@@ -136,6 +136,6 @@ pub at_most_one : (z : ℤ) → (pos 1 <ℤ z → ⊥) → z ≤ℤ pos 1
 at_most_one z h = by_lt_z (pos 1) z (λ l. absurd (h l)) (λ l. l)
 
 -- quotients by the gcd, where memory sufficed
-pub primitive_quotients : {V E : Type 0} (entries : V → Vector) (r : Result V E) (x : Vector) (g : ℤ) → pos 1 <ℤ g → IsGcdOf x g → IfOk r (λ q. x ≡ scaled g (entries q)) → IfOk r (λ q. IsPrimitiveOf x (entries q))
+pub primitive_quotients : {V E : Type 0} (entries : V → Vector) (r : Result V E) (x : Vector) (g : ℤ) → pos 1 <ℤ g → HasGcd x g → IfOk r (λ q. x ≡ scaled g (entries q)) → IfOk r (λ q. IsPrimitivePart x (entries q))
 primitive_quotients entries (Ok q) x g l is e = primitive_of x (entries q) g (omega (arith, ints, l)) is e
 primitive_quotients entries (Err _) x g l is e = tt

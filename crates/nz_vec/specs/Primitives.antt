@@ -7,8 +7,8 @@ use Rattle.nz_spec.specs.Vectors.{Vector, scaled, IsNonzero, IsPrimitive, IsMult
 abbrev pub HasDivisorsOf : List ℤ → ℤ → Type 0
 HasDivisorsOf xs d = (k : ℤ) → IsMultipleOf k d ↔ Each (IsMultipleOf k) xs
 
--- x is a positive multiple of r, and r is primitive, or x is 0
-pub record IsPrimitiveOf (x r : Vector) : Type 0 where
+-- r is the primitive part of x: x is a positive multiple of r, and r is primitive where x is not 0
+pub record IsPrimitivePart (x r : Vector) : Type 0 where
   pub divisor : ℤ
   pub positive : pos 1 ≤ℤ divisor
   pub whole : x ≡ scaled divisor r

@@ -3,9 +3,9 @@ ghost use Rattle.std.specs.Prelude.{◌≡◌, ◌≢◌, ℤ, pos, ◌+ℤ◌, 
 ghost use Rattle.std.specs.List.{AllByRecursion as Each};
 ghost use Rattle.nz_spec.specs.Vectors.{plus, scaled, IsMultipleOf};
 ghost use Rattle.nz_scalar.specs.Exact.{GivesSuch};
-ghost use Rattle.nz_scalar.specs.Division.{IsGcdOf};
+ghost use Rattle.nz_scalar.specs.Division.{HasGcd};
 ghost use Rattle.nz_vec.specs.Combinations.{TermFits, CombinationFits};
-ghost use Rattle.nz_vec.specs.Primitives.{HasDivisorsOf, IsPrimitiveOf};
+ghost use Rattle.nz_vec.specs.Primitives.{HasDivisorsOf, IsPrimitivePart};
 
 use crate::{NoMemory, Num, Scalar};
 use std::alloc::Global;
@@ -51,7 +51,7 @@ fn term<T: Scalar>(a: T, x: T, b: T, y: T) -> Option<T>
 
 /// The gcd of the entries.
 pub(crate) fn content<T: Scalar>(entries: &[T]) -> Option<T>
-    ensures { GivesSuch T.integer T.fits result (IsGcdOf (map T.integer entries.now)) }
+    ensures { GivesSuch T.integer T.fits result (HasGcd (map T.integer entries.now)) }
 {
     let mut held = T::of_i64(0);
     for entry in entries {
@@ -104,8 +104,8 @@ pub(crate) fn quotients<T: Scalar>(alloc: Global, entries: &[T], by: T) -> Resul
 
 /// The entries divided by their gcd, where it is not 0.
 pub(crate) fn divided<T: Scalar>(alloc: Global, entries: &[T], gcd: T) -> Result<Vec<T>, NoMemory>
-    requires { IsGcdOf (map T.integer entries.now) (T.integer gcd) }
-    ensures { IfOk result (λ q. IsPrimitiveOf (map T.integer entries.now) (map T.integer q.items)) }
+    requires { HasGcd (map T.integer entries.now) (T.integer gcd) }
+    ensures { IfOk result (λ q. IsPrimitivePart (map T.integer entries.now) (map T.integer q.items)) }
 {
     if is_above_one(gcd) {
         quotients(alloc, entries, gcd)

@@ -52,7 +52,9 @@ fn row<T: Scalar>(alloc: Global, entries: [i64; 2]) -> Result<Row<T>, Fail> {
 
 fn reads<T: Scalar>(row: &Row<T>, entries: [i64; 2]) -> bool {
     let [first, second] = entries;
-    row.len() == 2 && row.at(0).to_i128() == i128::from(first) && row.at(1).to_i128() == i128::from(second)
+    row.len() == 2
+        && row.at(0).to_i128() == i128::from(first)
+        && row.at(1).to_i128() == i128::from(second)
 }
 
 fn reckons<T: Scalar>(rt: &impl Abort, alloc: Global) -> Result<(), Fail> {
@@ -62,11 +64,20 @@ fn reckons<T: Scalar>(rt: &impl Abort, alloc: Global) -> Result<(), Fail> {
         let (u, v) = (row::<T>(alloc, u)?, row::<T>(alloc, v)?);
         assert_eq!(rt; u.len(), v.len());
         let (a, b) = (T::of_i64(a), T::of_i64(b));
-        assert!(rt; reads(&Row::combine(alloc, a, &u, b, &v).or(Err("refused"))?, case.combined));
+        assert!(rt;
+            reads(
+                &Row::combine(alloc, a, &u, b, &v).or(Err("refused"))?,
+                case.combined
+            )
+        );
         assert!(rt; reads(&u.primitive().or(Err("refused"))?, case.primitive));
         assert!(rt; u.dot(&v).map(|d| d.to_i128()) == Some(i128::from(case.dot)));
         assert!(rt; cmp_order(a, &u, a, &v) == case.order);
-        let copy = u.try_copy().or(Err("no memory"))?.widen().or(Err("no memory"))?;
+        let copy = u
+            .try_copy()
+            .or(Err("no memory"))?
+            .widen()
+            .or(Err("no memory"))?;
         assert!(rt; reads(&copy, case.rows[0]));
     }
     Ok(())
@@ -78,7 +89,9 @@ fn keeps<T: Scalar>(rt: &impl Abort, alloc: Global) -> Result<(), Fail> {
     let mut lists = RowLists::new(alloc);
     lists.push(rows).or(Err("no memory"))?;
     let mut constraints = Constraints::new(alloc);
-    constraints.push(Constraint::NotNegative(row::<T>(alloc, [5, 7])?)).or(Err("no memory"))?;
+    constraints
+        .push(Constraint::NotNegative(row::<T>(alloc, [5, 7])?))
+        .or(Err("no memory"))?;
     assert_eq!(rt; lists.len(), 1);
     let rows = lists.at(0);
     assert_eq!(rt; rows.len(), 1);

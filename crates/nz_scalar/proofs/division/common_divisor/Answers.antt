@@ -1,8 +1,8 @@
-use Rattle.std.proofs.Common.{◌≡◌, ℤ, pos, arith, refl, subst}
-use Rattle.std.proofs.lemmas.Int.{ints, rem_below}
+use Rattle.std.proofs.Common.{refl}
+use Rattle.std.proofs.lemmas.Int.{rem_below}
 use Rattle.num_traits.proofs.Fits.{rem-fits}
 use Rattle.nz_scalar.proofs.FloorLemmas.{size_pos, pos_of}
-use Rattle.nz_scalar.proofs.GcdLemmas.{SameDivisors, divisors_start, divisors_step, divisors_end}
+use Rattle.nz_scalar.proofs.GcdLemmas.{divisors_start, divisors_step, divisors_end}
 use Rattle.nz_scalar.proofs.division.common_divisor.Goals as goal
 
 pub steps-init : goal.steps-init

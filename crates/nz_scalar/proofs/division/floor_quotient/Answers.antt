@@ -1,7 +1,6 @@
-use Rattle.std.proofs.Common.{◌≡◌, ℤ, pos, ◌-ℤ◌, Some, None, refl, inl, inr, sym, ap, ◌∙◌, subst}
-use Rattle.std.specs.Prelude.{int_div, int_rem}
-use Rattle.nz_scalar.specs.Exact.{GivesSuch}
-use Rattle.nz_scalar.specs.Division.{IsFloor, RoundsUp}
+use Rattle.std.proofs.Common.{ℤ, pos, ◌-ℤ◌, Some, None, refl, inl, inr, sym, ap, ◌∙◌, subst}
+use Rattle.std.specs.Prelude.{int_div}
+use Rattle.nz_scalar.specs.Division.{IsFloorQuotient, RoundsUp}
 use Rattle.nz_scalar.proofs.FloorLemmas.{no_floor, floor_exact, floor_less, floor_fits, such_of_checks, some_of_checks}
 use Rattle.nz_scalar.proofs.division.floor_quotient.Goals as goal
 
@@ -45,4 +44,4 @@ returns-else-rounds_up-clause-value g c =
     let d = g.met.N.CheckedDiv.checked_div_law c.args.a c.args.by (Some c.in-Some.quotient) c.in-Some.ensures in
     let r = g.met.N.Num.rem_law c.args.a c.args.by c.rem.result c.rem.ensures exact in
     let is = floor_exact a b c.requires.nonzero (λ up. cc (c.if-rounds_up.ensures.1 (subst (λ (z : ℤ). RoundsUp z b) (sym r) up))) in
-    (subst g.N.Number.fits (sym d.2) d.1, subst (λ (z : ℤ). IsFloor a b z) (sym d.2) is)
+    (subst g.N.Number.fits (sym d.2) d.1, subst (λ (z : ℤ). IsFloorQuotient a b z) (sym d.2) is)

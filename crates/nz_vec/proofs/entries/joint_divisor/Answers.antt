@@ -1,5 +1,5 @@
 use Rattle.std.proofs.Common.{refl, ◌∙◌}
-use Rattle.nz_scalar.specs.Division.{IsGcdOf}
+use Rattle.nz_scalar.specs.Division.{HasGcd}
 use Rattle.nz_vec.proofs.DivisorLemmas.{joint_one, joint_zero, joint_start, joint_gcd, such_of_some}
 use Rattle.nz_vec.proofs.entries.joint_divisor.Goals as goal
 
@@ -13,4 +13,4 @@ pub returns-then-same-3 : goal.returns-then-same-3
 returns-then-same-3 g c = joint_start _ _ (c.if-same-3.ensures.0 refl ∙ c.of_i64-zero.ensures)
 
 pub returns-else-same-4 : goal.returns-else-same-4
-returns-else-same-4 g c = joint_gcd _ _ _ (such_of_some g.T.Scalar.integer g.T.Scalar.fits c.gcd.result c.unwrap.result (IsGcdOf _) c.unwrap.ensures c.gcd.ensures.value)
+returns-else-same-4 g c = joint_gcd _ _ _ (such_of_some g.T.Scalar.integer g.T.Scalar.fits c.gcd.result c.unwrap.result (HasGcd _) c.unwrap.ensures c.gcd.ensures.value)
