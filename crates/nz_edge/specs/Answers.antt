@@ -15,7 +15,7 @@ abbrev pub OnTold : {A : Type 0} → Option A → (A → Type 0) → Type 0
 OnTold None P = Unit {0}
 OnTold (Some a) P = P a
 
--- The bytes are the first of the file, one more than `most` of them or all where there are fewer. Where no file was found and reading had no fault (its count before and now), none is there.
+-- the bytes are the first `most + 1` of the file, or all; where no file was found and reading had no fault, none is there
 abbrev pub LoadGives : Files → Text → ℕ → ℕ → ℕ → Load → Type 0
 LoadGives at name most faults faults' (load.Bytes bytes) = (whole : Text) × (at name ≡ Some whole) × (bytes ≡ take (most + 1) whole)
 LoadGives at name most faults faults' load.Absent = IsQuiet faults faults' → at name ≡ None

@@ -1,4 +1,4 @@
-ghost use Rattle.std.specs.Prelude.{◌≡◌, ◌≤◌, ◌<◌, ◌+◌, ◌++◌, [], length, IfOk, MatchBool, vec_len, vec_capacity};
+ghost use Rattle.std.specs.Prelude.{◌≡◌, ◌≤◌, ◌↔◌, ◌+◌, ◌++◌, [], length, IfOk, IsTrue, if◌then◌else◌, vec_len, vec_capacity};
 
 use nz_vec::NoMemory;
 use std::alloc::Global;
@@ -32,7 +32,8 @@ impl Buffer {
     /// Appends the piece. The answer false comes exactly where it is longer than the room left.
     pub fn append(&mut self, piece: &[u8]) -> bool
         ensures room { self.new.room ≡ self.old.room }
-        ensures cases { MatchBool result ((length self.old.bytes.items + length piece.now ≤ self.old.room) × (self.new.bytes.items ≡ self.old.bytes.items ++ piece.now)) ((self.old.room < length self.old.bytes.items + length piece.now) × (self.new.bytes.items ≡ self.old.bytes.items)) }
+        ensures fits { IsTrue result ↔ (length self.old.bytes.items + length piece.now ≤ self.old.room) }
+        ensures bytes { self.new.bytes.items ≡ (if result then self.old.bytes.items ++ piece.now else self.old.bytes.items) }
     {
         if piece.len() > self.room - self.bytes.len() {
             return false;

@@ -1,0 +1,42 @@
+-- What the program solves today, and the word that names what it does not.
+use Rattle.std.specs.Prelude.{◌≡◌, List, ◌∷◌, ◌++◌, pos, ◌≤ℤ◌}
+use Rattle.std.specs.List.{AllByRecursion as Each}
+use Rattle.nz_spec.specs.Vectors.{Vector}
+use Rattle.nz_input.specs.Files.{ItemData, FileData}
+use Rattle.nz_input.specs.declared.kind.Kind.TheVariants.{Congruences}
+use Rattle.nz_input.specs.declared.kind.Goal.{Goal}
+use Rattle.nz_input.specs.declared.kind.Goal.TheVariants.{HilbertBasis}
+use Rattle.nz_box.specs.Congruences.{congruence_of}
+use Rattle.nz_run.specs.declared.built.Keyword.{Keyword}
+use Rattle.nz_run.specs.declared.built.Keyword.TheVariants as keyword
+
+-- the modulus of the row is at least 1
+abbrev pub HasModulus : Vector → Type 0
+HasModulus r = pos 1 ≤ℤ (congruence_of r).modulus
+
+-- congruences, each with a modulus of at least 1
+pub record IsBuiltItem (item : ItemData) : Type 0 where
+  pub kind : item.kind ≡ Congruences
+  pub moduli : Each HasModulus item.rows
+
+-- the Hilbert basis is asked
+abbrev pub IsBuiltGoal : Goal → Type 0
+IsBuiltGoal goal = goal ≡ HilbertBasis
+
+-- every item and every goal of the file is built
+pub record IsBuilt (file : FileData) : Type 0 where
+  pub items : Each IsBuiltItem file.items
+  pub goals : Each IsBuiltGoal file.goals
+
+-- x is the first of the list that is not P
+pub record IsFirstNot {A : Type 0} (P : A → Type 0) (xs : List A) (x : A) : Type 0 where
+  pub before : List A
+  pub after : List A
+  pub whole : xs ≡ before ++ x ∷ after
+  pub are : Each P before
+  pub not : ¬ P x
+
+-- the word is that of the first item that is not built, or, where all items are, of the first goal that is not
+abbrev pub IsFirstUnbuilt : FileData → Keyword → Type 0
+IsFirstUnbuilt file (keyword.Item kind) = (item : ItemData) × IsFirstNot IsBuiltItem file.items item × (item.kind ≡ kind)
+IsFirstUnbuilt file (keyword.Goal goal) = Each IsBuiltItem file.items × IsFirstNot IsBuiltGoal file.goals goal

@@ -1,0 +1,5 @@
+pub mod Words
+pub mod FileSystems
+pub mod Built
+pub mod Statuses
+pub mod Runs

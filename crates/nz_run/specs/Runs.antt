@@ -1,0 +1,105 @@
+-- What a run leaves, status by status.
+use Rattle.std.specs.Prelude.{◌≡◌, ◌⊎◌, ℕ, ◌+◌, ◌<◌, ◌≤◌, false, ◌++◌, List, length, take, Option, Some, None}
+use Rattle.nz_vec.specs.Texts.{Text}
+use Rattle.nz_spec.specs.Vectors.{Vector}
+use Rattle.nz_spec.specs.Elements.{IsHilbertBasis}
+use Rattle.nz_input.specs.Files.{FileData}
+use Rattle.nz_input.specs.Texts.{IsTextOf}
+use Rattle.nz_input.specs.Refusals.{IsRefusedAt}
+use Rattle.nz_box.specs.Sides.{IsCrowded}
+use Rattle.nz_blocks.specs.Output.{text_of}
+use Rattle.nz_edge.specs.Folders.{Files, SameFiles, SameOthers, Stores}
+use Rattle.nz_edge.specs.Counts.{IsQuiet, Rose}
+use Rattle.nz_run.specs.Words.{AreWordsFor, AreRefused, input_name, output_name}
+use Rattle.nz_run.specs.FileSystems.{system_of}
+use Rattle.nz_run.specs.Built.{IsBuilt, IsFirstUnbuilt}
+use Rattle.nz_run.specs.Statuses.{status_line}
+use Rattle.nz_run.specs.declared.status.Status.{Status}
+use Rattle.nz_run.specs.declared.status.Status.TheVariants.{Done, Usage, Absent, ReadFault, TooLong, Grammar, NotBuilt, Crowded, WriteFault, NoMemory}
+
+-- the most bytes of an input
+abbrev pub most : ℕ
+most = 16777216
+
+-- the input of a run: what the folder tells of the project's file, cut behind the first byte that is too many
+pub record IsInput (project : Text) (files : Files) (input : Text) : Type 0 where
+  pub whole : Text
+  pub there : files (input_name project) ≡ Some whole
+  pub cut : input ≡ take (most + 1) whole
+
+-- the bytes of the input are not too many
+abbrev pub IsShort : Text → Type 0
+IsShort input = length input ≤ most
+
+-- the input is a text of this file, of which everything is built
+pub record IsReadAs (input : Text) (file : FileData) : Type 0 where
+  pub short : IsShort input
+  pub read : IsTextOf input file
+  pub built : IsBuilt file
+
+-- the input is a text of a file, and the output the text of the list of exactly the irreducible elements of the monoid that it defines, each once, in order
+pub record IsSolved (input output : Text) : Type 0 where
+  pub file : FileData
+  pub list : List Vector
+  pub read : IsReadAs input file
+  pub not_crowded : ¬ IsCrowded (system_of file)
+  pub basis : IsHilbertBasis (system_of file) list
+  pub same : output ≡ text_of (record { amb = file.amb; level = false; hilbert = Some list })
+
+-- the input is the cause of the status
+abbrev pub IsCause : Text → Status → Type 0
+IsCause input TooLong = most < length input
+IsCause input (Grammar l c f) = IsShort input × IsRefusedAt input l c f
+IsCause input (NotBuilt word) = IsShort input × (file : FileData) × IsTextOf input file × IsFirstUnbuilt file word
+IsCause input Crowded = (file : FileData) × IsReadAs input file × IsCrowded (system_of file)
+IsCause input Done = ⊥
+IsCause input Usage = ⊥
+IsCause input Absent = ⊥
+IsCause input ReadFault = ⊥
+IsCause input WriteFault = ⊥
+IsCause input NoMemory = ⊥
+
+-- what the status says of the input and of the files before and after it was solved; the name is that of the output
+abbrev pub Leaves : Text → Text → Status → Files → Files → Type 0
+Leaves name input Done old new = (output : Text) × IsSolved input output × Stores name output old new
+Leaves name input WriteFault old new = (output : Text) × IsSolved input output × SameOthers name old new
+Leaves name input NoMemory old new = SameFiles old new
+Leaves name input status old new = IsCause input status × SameFiles old new
+
+-- what the status of a run of the project says of the files; the counts of faults tell whether reading had one
+abbrev pub ExplainsFor : Text → ℕ → ℕ → Status → Files → Files → Type 0
+ExplainsFor project faults faults' Absent old new = (IsQuiet faults faults' → old (input_name project) ≡ None) × SameFiles old new
+ExplainsFor project faults faults' ReadFault old new = SameFiles old new
+ExplainsFor project faults faults' NoMemory old new = SameFiles old new
+ExplainsFor project faults faults' Usage old new = ⊥
+ExplainsFor project faults faults' status old new = (input : Text) × IsInput project old input × Leaves (output_name project) input status old new
+
+-- what the status of a run says of the words and the files
+abbrev pub Explains : List Text → ℕ → ℕ → Status → Files → Files → Type 0
+Explains words faults faults' Usage old new = AreRefused words × SameFiles old new
+Explains words faults faults' NoMemory old new = SameFiles old new
+Explains words faults faults' status old new = (project : Text) × AreWordsFor project words × ExplainsFor project faults faults' status old new
+
+-- the status is this one, unless memory ran out
+abbrev pub Decided : Status → Status → Type 0
+Decided status this = (status ≡ this) ⊎ (status ≡ NoMemory)
+
+-- the count that explains a status rose: that of faults, of misses or of stores that failed
+abbrev pub CountRose : Status → ℕ → ℕ → ℕ → ℕ → ℕ → ℕ → Type 0
+CountRose Absent faults faults' misses misses' stores stores' = Rose misses misses'
+CountRose ReadFault faults faults' misses misses' stores stores' = Rose faults faults'
+CountRose WriteFault faults faults' misses misses' stores stores' = Rose stores stores'
+CountRose status faults faults' misses misses' stores stores' = Unit {0}
+
+-- after the input was loaded, the one fault is that of the store
+abbrev pub StoreCount : Status → ℕ → ℕ → Type 0
+StoreCount Usage before now = ⊥
+StoreCount Absent before now = ⊥
+StoreCount ReadFault before now = ⊥
+StoreCount WriteFault before now = Rose before now
+StoreCount status before now = Unit {0}
+
+-- the console grew by the status line, or by some first bytes of it where it had a fault
+pub record PutsLine (faults faults' : ℕ) (status : Status) (before now : Text) : Type 0 where
+  pub whole : IsQuiet faults faults' → now ≡ before ++ status_line status
+  pub part : (n : ℕ) × (now ≡ before ++ take n (status_line status))

@@ -1,0 +1,53 @@
+-- The code and the line of each status.
+use Rattle.std.specs.Prelude.{ℕ, ◌++◌, codes, decimal}
+use Rattle.nz_vec.specs.Texts.{Text}
+use Rattle.nz_input.specs.declared.refusal.Fault.{Fault}
+use Rattle.nz_input.specs.declared.refusal.Fault.TheVariants as fault
+use Rattle.nz_input.specs.Words.{keyword, goal_word}
+use Rattle.nz_blocks.specs.Output.{line}
+use Rattle.nz_run.specs.declared.built.Keyword.{Keyword}
+use Rattle.nz_run.specs.declared.built.Keyword.TheVariants as word
+use Rattle.nz_run.specs.declared.status.Status.{Status}
+use Rattle.nz_run.specs.declared.status.Status.TheVariants.{Done, Usage, Absent, ReadFault, TooLong, Grammar, NotBuilt, Crowded, WriteFault, NoMemory}
+
+-- the exit status of the program
+abbrev pub code_of : Status → ℕ
+code_of Done = 0
+code_of Usage = 2
+code_of Absent = 3
+code_of ReadFault = 4
+code_of TooLong = 5
+code_of (Grammar l c f) = 6
+code_of WriteFault = 13
+code_of NoMemory = 14
+code_of (NotBuilt w) = 15
+code_of Crowded = 16
+
+-- the name of a fault
+abbrev pub fault_name : Fault → Text
+fault_name fault.NoAmb = codes "NoAmb"
+fault_name fault.Word = codes "Word"
+fault_name fault.Number = codes "Number"
+fault_name fault.TooWide = codes "TooWide"
+fault_name fault.TooFew = codes "TooFew"
+fault_name fault.TooMany = codes "TooMany"
+fault_name fault.OpenComment = codes "OpenComment"
+fault_name fault.Byte = codes "Byte"
+
+-- the keyword or goal word
+abbrev pub word_of : Keyword → Text
+word_of (word.Item kind) = keyword kind
+word_of (word.Goal goal) = goal_word goal
+
+-- the line on the console
+abbrev pub status_line : Status → Text
+status_line Done = line (codes "done")
+status_line Usage = line (codes "usage: nmz [options] PROJECT")
+status_line Absent = line (codes "no input file")
+status_line ReadFault = line (codes "read fault")
+status_line TooLong = line (codes "input too long")
+status_line (Grammar l c f) = line (codes "line " ++ decimal l ++ codes " column " ++ decimal c ++ codes ": " ++ fault_name f)
+status_line (NotBuilt w) = line (codes "not built: " ++ word_of w)
+status_line Crowded = line (codes "crowded")
+status_line WriteFault = line (codes "write fault")
+status_line NoMemory = line (codes "no memory")

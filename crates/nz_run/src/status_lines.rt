@@ -1,0 +1,98 @@
+//! The line of a status, written to the console without memory.
+ghost use Rattle.std.specs.Prelude.{◌≡◌, ◌≤◌, ◌++◌, IsFalse, codes, decimal};
+ghost use Rattle.nz_edge.specs.Counts.{Rose};
+ghost use Rattle.nz_edge.specs.Folders.{BothTold};
+ghost use Rattle.nz_edge.specs.Answers.{PutAll};
+ghost use Rattle.nz_blocks.specs.Output.{line};
+ghost use Rattle.nz_run.specs.Statuses.{fault_name, status_line};
+
+use crate::Status;
+use itoa::Buffer;
+use nz_edge::{Sink, put_all};
+use nz_input::Fault;
+
+fn name_of(fault: Fault) -> &'static [u8]
+    ensures { result.now ≡ fault_name fault }
+{
+    match fault {
+        Fault::NoAmb => b"NoAmb".as_slice(),
+        Fault::Word => b"Word".as_slice(),
+        Fault::Number => b"Number".as_slice(),
+        Fault::TooWide => b"TooWide".as_slice(),
+        Fault::TooFew => b"TooFew".as_slice(),
+        Fault::TooMany => b"TooMany".as_slice(),
+        Fault::OpenComment => b"OpenComment".as_slice(),
+        Fault::Byte => b"Byte".as_slice(),
+    }
+}
+
+// One piece, and where it was taken whole, the next.
+fn put_two<S: Sink>(console: &mut S, first: &[u8], second: &[u8]) -> bool
+    ensures written { BothTold (S.written console.old) (S.written console.new) (λ old new. PutAll old new (first.now ++ second.now) result) }
+    ensures cause { IsFalse result → Rose (S.faults console.old) (S.faults console.new) }
+    ensures later { S.faults console.old ≤ S.faults console.new }
+{
+    if put_all(console, first) {
+        put_all(console, second)
+    } else {
+        false
+    }
+}
+
+// A label and a number.
+fn put_number<S: Sink>(console: &mut S, label: &[u8], number: u64) -> bool
+    ensures written { BothTold (S.written console.old) (S.written console.new) (λ old new. PutAll old new (label.now ++ decimal number) result) }
+    ensures cause { IsFalse result → Rose (S.faults console.old) (S.faults console.new) }
+    ensures later { S.faults console.old ≤ S.faults console.new }
+{
+    let mut buffer = Buffer::new();
+    put_two(console, label, buffer.format(number).as_bytes())
+}
+
+// A label, a text and an end of line.
+fn put_text<S: Sink>(console: &mut S, label: &[u8], text: &[u8]) -> bool
+    ensures written { BothTold (S.written console.old) (S.written console.new) (λ old new. PutAll old new (line (label.now ++ text.now)) result) }
+    ensures cause { IsFalse result → Rose (S.faults console.old) (S.faults console.new) }
+    ensures later { S.faults console.old ≤ S.faults console.new }
+{
+    if put_two(console, label, text) {
+        put_all(console, b"\n".as_slice())
+    } else {
+        false
+    }
+}
+
+// Where the input is no text, and why.
+fn put_place<S: Sink>(console: &mut S, row: u64, column: u64, fault: Fault) -> bool
+    ensures written { BothTold (S.written console.old) (S.written console.new) (λ old new. PutAll old new (status_line (Status.Grammar row column fault)) result) }
+    ensures cause { IsFalse result → Rose (S.faults console.old) (S.faults console.new) }
+    ensures later { S.faults console.old ≤ S.faults console.new }
+{
+    if !put_number(console, b"line ".as_slice(), row) {
+        return false;
+    }
+    if !put_number(console, b" column ".as_slice(), column) {
+        return false;
+    }
+    put_text(console, b": ".as_slice(), name_of(fault))
+}
+
+/// Writes the line of the status. False only where the console had a fault; some first bytes of the line were written then.
+pub fn put_status<S: Sink>(console: &mut S, status: Status) -> bool
+    ensures written { BothTold (S.written console.old) (S.written console.new) (λ old new. PutAll old new (status_line status) result) }
+    ensures cause { IsFalse result → Rose (S.faults console.old) (S.faults console.new) }
+    ensures later { S.faults console.old ≤ S.faults console.new }
+{
+    match status {
+        Status::Grammar { line, column, fault } => put_place(console, line, column, fault),
+        Status::NotBuilt(keyword) => put_text(console, b"not built: ".as_slice(), keyword.word()),
+        Status::Done => put_all(console, b"done\n".as_slice()),
+        Status::Usage => put_all(console, b"usage: nmz [options] PROJECT\n".as_slice()),
+        Status::Absent => put_all(console, b"no input file\n".as_slice()),
+        Status::ReadFault => put_all(console, b"read fault\n".as_slice()),
+        Status::TooLong => put_all(console, b"input too long\n".as_slice()),
+        Status::Crowded => put_all(console, b"crowded\n".as_slice()),
+        Status::WriteFault => put_all(console, b"write fault\n".as_slice()),
+        Status::NoMemory => put_all(console, b"no memory\n".as_slice()),
+    }
+}
