@@ -1,10 +1,10 @@
 -- The canonical text is a text of the file.
-use Rattle.std.proofs.Common.{◌≡◌, ℕ, suc, ◌+◌, ◌-◌, ◌/◌, ◌%◌, ◌^◌, ◌<◌, ◌≤◌, Bool, true, false, List, [], ◌∷◌, ◌++◌, length, map, take, drop, get_or, refl, sym, ap, subst, ◌∙◌, append_assoc, arith, inl, inr}
+use Rattle.std.proofs.Common.{◌≡◌, ℕ, suc, ◌+◌, ◌/◌, ◌%◌, ◌^◌, ◌<◌, ◌≤◌, Bool, true, false, List, [], ◌∷◌, ◌++◌, length, map, refl, sym, ap, subst, ◌∙◌, append_assoc, arith, inl, inr}
 use Rattle.std.specs.Prelude.{ℤ, pos, negsuc, nat_abs}
 use Rattle.std.specs.List.{flat_map, AllByRecursion}
 use Rattle.std.specs.Fmt.{decimal, signed_decimal}
 use Rattle.std.proofs.lemmas.Fmt.{decimal_by_steps}
-use Rattle.std.proofs.lemmas.List.{append-nil, take_all}
+use Rattle.std.proofs.lemmas.List.{append-nil}
 use Rattle.nz_input.specs.declared.kind.Goal.{Goal}
 use Rattle.nz_input.specs.declared.kind.Word.TheVariants.{GoalWord, Keyword}
 use Rattle.nz_text.specs.declared.pieces.Class.TheVariants.{Blank, Solid}
@@ -15,7 +15,8 @@ use Rattle.nz_input.specs.Words.{text_of, amb_space, is_matrix, columns}
 use Rattle.nz_text.proofs.Gaps.{skip-blank, skip-nil}
 use Rattle.nz_input.proofs.Pieces.{spells-solid, spells-some}
 use Rattle.nz_input.proofs.Laying.{Reads, skip-piece, reads-lays}
-use Rattle.nz_input.proofs.Digits.{value-append, all-both}
+use Rattle.nz_input.proofs.Digits.{value-append}
+use Rattle.nz_input.proofs.Each.{all-both}
 use Rattle.nz_input.proofs.Going.{columns-some}
 use Rattle.nz_input.specs.Files.{FileData, ItemData, IsItem, IsFile}
 use Rattle.nz_input.specs.Symbols.{OfItem, OfGoal, IsDigit, IsNumeral, Spells, IsEntry, row_count, entry_symbols, symbols, items_of, goals_of, file_of}

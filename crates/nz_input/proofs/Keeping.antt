@@ -1,30 +1,22 @@
 -- What a text is a text of keeps what each file keeps.
-use Rattle.std.proofs.Common.{◌≡◌, ℕ, zero, suc, ◌^◌, ◌≤◌, Bool, true, false, List, [], ◌∷◌, ◌++◌, length, map, sym, subst, arith, inl, inr}
-use Rattle.std.specs.Prelude.{ℤ, pos, negsuc, neg_ℤ, nat_abs}
+use Rattle.std.proofs.Common.{ℕ, zero, suc, ◌^◌, ◌≤◌, Bool, true, false, List, [], ◌∷◌, ◌++◌, length, map, sym, subst, arith, inl, inr}
+use Rattle.std.specs.Prelude.{ℤ, pos, neg_ℤ, nat_abs}
 use Rattle.std.specs.List.{flat_map, AllByRecursion}
-use Rattle.nz_input.specs.declared.kind.Kind.{Kind}
 use Rattle.nz_input.specs.declared.symbol.Symbol.{Symbol}
 use Rattle.nz_input.specs.declared.symbol.Symbol.TheVariants.{Number}
-use Rattle.nz_input.specs.Words.{is_matrix, columns}
+use Rattle.nz_input.specs.Words.{is_matrix}
 use Rattle.nz_input.specs.Files.{FileData, HasRows, IsBounded, IsItem, IsFile}
 use Rattle.nz_input.specs.Symbols.{Spells, IsNumber, Entry, OfItem, OfGoal, IsEntry, entry_symbols, row_count, symbols, items_of}
 use Rattle.nz_input.specs.Texts.{Separator, Gap, Break, Lays, IsTextOf}
+use Rattle.nz_input.proofs.Each.{all-front, all-back}
 
 -- it has a spelling
-abbrev IsSpelledOut : Symbol → Type 0
+abbrev pub IsSpelledOut : Symbol → Type 0
 IsSpelledOut s = (piece : List ℕ) × Spells s piece
 
-lays-spelled : (before : Separator) (ss : List Symbol) (t : List ℕ) → Lays before ss t → AllByRecursion IsSpelledOut ss
+pub lays-spelled : (before : Separator) (ss : List Symbol) (t : List ℕ) → Lays before ss t → AllByRecursion IsSpelledOut ss
 lays-spelled before [] t h = tt
 lays-spelled before (s ∷ ss) t (gap, piece, rest, whole, parts, spells, others) = ((piece, spells), lays-spelled Break ss rest others)
-
-all-front : {A : Type 0} (P : A → Type 0) (xs ys : List A) → AllByRecursion P (xs ++ ys) → AllByRecursion P xs
-all-front P [] ys h = tt
-all-front P (x ∷ xs) ys h = (h.0, all-front P xs ys h.1)
-
-all-back : {A : Type 0} (P : A → Type 0) (xs ys : List A) → AllByRecursion P (xs ++ ys) → AllByRecursion P ys
-all-back P [] ys h = h
-all-back P (x ∷ xs) ys h = all-back P xs ys h.1
 
 negative-bounded : (n : ℕ) → n ≤ 10 ^ 18 → nat_abs (neg_ℤ (pos n)) ≤ 10 ^ 18
 negative-bounded zero h = h

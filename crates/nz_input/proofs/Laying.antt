@@ -1,5 +1,5 @@
 -- Symbols that are laid out, as a reader meets them.
-use Rattle.std.proofs.Common.{◌≡◌, ◌≢◌, ℕ, Bool, true, false, List, [], ◌∷◌, ◌++◌, refl, sym, ap, subst, ◌∙◌, append_assoc, inl, inr, ◌⊎◌}
+use Rattle.std.proofs.Common.{◌≡◌, ◌≢◌, ℕ, List, [], ◌∷◌, ◌++◌, refl, sym, ap, subst, ◌∙◌, append_assoc, inl, inr, ◌⊎◌}
 use Rattle.std.specs.List.{flat_map, AllByRecursion}
 use Rattle.std.proofs.lemmas.List.{append-nil}
 use Rattle.nz_text.specs.declared.pieces.Class.{Class}
@@ -10,6 +10,7 @@ use Rattle.nz_text.specs.declared.pieces.Mode.TheVariants.{Outside}
 use Rattle.nz_text.specs.Skip.{Skipped, Reaches, skip}
 use Rattle.nz_input.specs.Sit.{Sit, next, Steps, Accepts}
 use Rattle.nz_text.proofs.Gaps.{skip-gap, skip-solid, skip-nil, says-skip, Says, IsPassed, IsStop}
+use Rattle.nz_text.proofs.OneStep.{same-run}
 use Rattle.nz_input.proofs.Pieces.{spells-solid, spells-some, spells-one}
 use Rattle.nz_input.specs.Symbols.{Spells}
 use Rattle.nz_input.specs.Texts.{Parts, Lays, Separator, Gap, Break}
@@ -48,18 +49,6 @@ pub skip-piece : (piece t : List ℕ) → IsSolid piece → piece ≢ [] → ski
 skip-piece [] t solid some = absurd (some refl)
 skip-piece (b ∷ piece) t solid some = skip-solid b (piece ++ t) solid.0
 
--- two runs with an edge behind each
-pub same-run : (p q a b : List ℕ) → IsSolid p → IsSolid q → IsEdge a → IsEdge b → p ++ a ≡ q ++ b → (p ≡ q) × (a ≡ b)
-same-run [] [] a b hp hq ha hb e = (refl, e)
-same-run [] (y ∷ q) [] b hp hq ha hb e = absurd cc
-same-run [] (y ∷ q) (x ∷ a) b hp hq ha hb e = absurd (ha (let same : x ≡ y = cc in rw same (hq.0)))
-same-run (x ∷ p) [] a [] hp hq ha hb e = absurd cc
-same-run (x ∷ p) [] a (y ∷ b) hp hq ha hb e = absurd (hb (let same : y ≡ x = cc in rw same (hp.0)))
-same-run (x ∷ p) (y ∷ q) a b hp hq ha hb e =
-    let below = same-run p q a b hp.1 hq.1 ha hb cc in
-    let same : x ≡ y = cc in
-    (rw (same, below.0) refl, below.1)
-
 pub append-some : (a b : List ℕ) → a ≢ [] → a ++ b ≢ []
 append-some [] b h e = h refl
 append-some (x ∷ a) b h e = cc
@@ -73,7 +62,7 @@ pub lays-edge : (ss : List Symbol) (t : List ℕ) → Lays Break ss t → IsEdge
 lays-edge [] t h = gap-edge-nil t h
 lays-edge (s ∷ ss) t (gap, piece, rest, whole, parts, spells, others) = rw whole (gap-edge gap (piece ++ rest) parts.0 parts.1)
 
-parts-gap : (before : Separator) (gap : List ℕ) → Parts before gap → IsGap gap
+pub parts-gap : (before : Separator) (gap : List ℕ) → Parts before gap → IsGap gap
 parts-gap Gap gap h = h
 parts-gap Break gap h = h.0
 

@@ -1,9 +1,10 @@
 -- A text is a text of one file.
-use Rattle.std.proofs.Common.{◌≡◌, ℕ, true, ◌≤◌, List, [], ◌∷◌, refl, sym, ap, subst, ◌∙◌}
+use Rattle.std.proofs.Common.{◌≡◌, ℕ, ◌≤◌, List, [], ◌∷◌, refl, sym, ap, subst, ◌∙◌}
 use Rattle.nz_input.specs.declared.symbol.Symbol.{Symbol}
 use Rattle.nz_input.specs.Sit.{Sit, AtFirst, next, Steps, Accepts}
 use Rattle.nz_input.proofs.Pieces.{spells-solid, spells-some, spells-one}
-use Rattle.nz_input.proofs.Laying.{Reads, lays-reads, append-some, reaches-is, same-run}
+use Rattle.nz_text.proofs.OneStep.{same-run}
+use Rattle.nz_input.proofs.Laying.{Reads, lays-reads, append-some, reaches-is}
 use Rattle.nz_input.proofs.Refusing.{accepts-symbols}
 use Rattle.nz_input.proofs.Collecting.{symbols-one}
 use Rattle.nz_input.specs.Files.{FileData}

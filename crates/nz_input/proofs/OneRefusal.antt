@@ -1,24 +1,22 @@
 -- A place and a fault are the only ones.
-use Rattle.std.proofs.Common.{◌≡◌, ◌≢◌, ℕ, suc, ◌≤◌, Bool, true, false, List, [], ◌∷◌, ◌++◌, length, refl, sym, ap, subst, ◌∙◌, append_assoc, arith, inl, inr, ◌⊎◌, Option}
-use Rattle.std.specs.List.{AllByRecursion}
+use Rattle.std.proofs.Common.{◌≡◌, ◌≢◌, ℕ, ◌≤◌, List, [], ◌∷◌, ◌++◌, length, refl, sym, ap, subst, ◌∙◌, append_assoc, Option}
 use Rattle.std.proofs.lemmas.List.{append-nil, append_cancel_left}
 use Rattle.nz_input.specs.declared.refusal.Fault.{Fault}
-use Rattle.nz_text.specs.declared.pieces.Class.TheVariants.{Solid}
 use Rattle.nz_text.specs.declared.pieces.Mode.TheVariants.{Outside}
 use Rattle.nz_input.specs.declared.symbol.Role.{Role}
-use Rattle.nz_input.specs.declared.symbol.Role.TheVariants.{First, Dimensional}
 use Rattle.nz_input.specs.declared.symbol.Symbol.{Symbol}
-use Rattle.nz_input.specs.declared.symbol.Symbol.TheVariants.{Amb, Dimension, Begin, Count, Number}
-use Rattle.nz_text.specs.Bytes.{class_of, IsGap, IsSolid, IsEdge, IsOpenComment}
+use Rattle.nz_input.specs.declared.symbol.Symbol.TheVariants.{Amb, Dimension}
+use Rattle.nz_text.specs.Bytes.{IsSolid, IsEdge, IsOpenComment}
 use Rattle.nz_text.specs.Skip.{Reaches, Opens, skip}
-use Rattle.nz_input.specs.Sit.{Sit, AtFirst, AtDimension, wants, next, Steps, Accepts}
+use Rattle.nz_input.specs.Sit.{Sit, AtFirst, AtDimension, wants, next, Steps}
 use Rattle.nz_text.proofs.Gaps.{skip-gap, skip-nil}
 use Rattle.nz_input.proofs.Pieces.{spells-solid, spells-some, spells-one}
-use Rattle.nz_input.proofs.Laying.{append-some, reaches-is, same-run, skip-piece, gap-edge, lays-edge, edge-append, regroup}
+use Rattle.nz_text.proofs.OneStep.{same-run}
+use Rattle.nz_input.proofs.Laying.{parts-gap, append-some, reaches-is, skip-piece, gap-edge, lays-edge, edge-append, regroup}
 use Rattle.nz_input.proofs.Completing.{prefix-part}
 use Rattle.nz_input.proofs.Refusing.{accepts-symbols}
-use Rattle.nz_input.specs.Symbols.{Spells, symbols}
-use Rattle.nz_input.specs.Texts.{Parts, Lays, Separator, Gap, Break}
+use Rattle.nz_input.specs.Symbols.{Spells}
+use Rattle.nz_input.specs.Texts.{Lays, Separator, Gap, Break}
 use Rattle.nz_input.specs.Refusals.{IsTextPrefix, role_of, IsNext, Precedes, Ends, IsRefused, EndsAt, AtPiece, InComment, Site, IsRefusedAt, fault_at}
 use Rattle.nz_input.specs.Prefixes.{first_of}
 use Rattle.nz_text.specs.Places.{line_at, column_at}
@@ -56,19 +54,15 @@ reach-solid : (t : List ℕ) → IsSolid t → skip Outside t ≡ Reaches t
 reach-solid [] h = skip-nil
 reach-solid (b ∷ t) h = subst (λ (x : List ℕ). skip Outside x ≡ Reaches x) (append-nil (b ∷ t)) (skip-piece (b ∷ t) [] h (λ e. cc))
 
-parts-is-gap : (before : Separator) (gap : List ℕ) → Parts before gap → IsGap gap
-parts-is-gap Gap gap h = h
-parts-is-gap Break gap h = h.0
-
 after-edge : (ss : List Symbol) (t begun : List ℕ) → Precedes Break ss t begun → IsEdge t × (t ≢ [])
 after-edge [] t begun (gap, parts, whole) = (rw whole (gap-edge gap begun parts.0 parts.1), λ e. append-some gap begun parts.1 (sym whole ∙ e))
 after-edge (s ∷ ss) t begun (gap, piece, rest, whole, parts, spells, others) = (rw whole (gap-edge gap (piece ++ rest) parts.0 parts.1), λ e. append-some gap (piece ++ rest) parts.1 (sym whole ∙ e))
 
 chain : (before : Separator) (ss : List Symbol) (t begun : List ℕ) → IsSolid begun → Precedes before ss t begun → Chain ss t begun
-chain before [] t begun solid (gap, parts, whole) = rw whole (skip-gap gap begun (parts-is-gap before gap parts) ∙ reach-solid begun solid)
+chain before [] t begun solid (gap, parts, whole) = rw whole (skip-gap gap begun (parts-gap before gap parts) ∙ reach-solid begun solid)
 chain before (s ∷ ss) t begun solid (gap, piece, rest, whole, parts, spells, others) =
     let edge = after-edge ss rest begun others in
-    (piece, rest, rw whole (skip-gap gap (piece ++ rest) (parts-is-gap before gap parts) ∙ skip-piece piece rest (spells-solid s piece spells) (spells-some s piece spells)), spells, edge.0, edge.1, chain Break ss rest begun solid others)
+    (piece, rest, rw whole (skip-gap gap (piece ++ rest) (parts-gap before gap parts) ∙ skip-piece piece rest (spells-solid s piece spells) (spells-some s piece spells)), spells, edge.0, edge.1, chain Break ss rest begun solid others)
 
 -- a solid end of what has an edge is empty
 solid-back : (a b : List ℕ) → IsSolid (a ++ b) → IsSolid b
@@ -103,12 +97,12 @@ one-place bytes at other f g r q =
     let same = longest-one [] r.before r.rest q.before q.rest (sym r.whole ∙ q.whole) r.begins r.ends q.begins q.ends in
     sym r.place ∙ ap length same ∙ q.place
 
-record SplitSteps (sit : Sit) (a b : List Symbol) (end : Sit) : Type 0 where
-  mid : Sit
-  front : Steps sit a mid
-  back : Steps mid b end
+pub record SplitSteps (sit : Sit) (a b : List Symbol) (end : Sit) : Type 0 where
+  pub mid : Sit
+  pub front : Steps sit a mid
+  pub back : Steps mid b end
 
-steps-split : (sit : Sit) (a b : List Symbol) (end : Sit) → Steps sit (a ++ b) end → SplitSteps sit a b end
+pub steps-split : (sit : Sit) (a b : List Symbol) (end : Sit) → Steps sit (a ++ b) end → SplitSteps sit a b end
 steps-split sit [] b end h = record { mid = sit; front = refl; back = h }
 steps-split sit (s ∷ a) b end h = let below = steps-split (next sit s) a b end h.1 in record { mid = below.mid; front = (h.0, below.front); back = below.back }
 
@@ -164,7 +158,7 @@ laid-open before [] front comment g h = skip-gap front comment g ∙ open-opens 
 laid-open before (s ∷ ss) front comment (gap, piece, rest, whole, parts, spells, others) h = (
   piece,
   rest ++ comment,
-  rw (whole, regroup) (skip-gap gap (piece ++ (rest ++ comment)) (parts-is-gap before gap parts) ∙ skip-piece piece (rest ++ comment) (spells-solid s piece spells) (spells-some s piece spells)),
+  rw (whole, regroup) (skip-gap gap (piece ++ (rest ++ comment)) (parts-gap before gap parts) ∙ skip-piece piece (rest ++ comment) (spells-solid s piece spells) (spells-some s piece spells)),
   spells,
   edge-append rest comment (lays-edge ss rest others) (open-edge comment h),
   laid-open Break ss rest comment others h,

@@ -24,9 +24,11 @@ use Rattle.nz_input.specs.Progress.{Progress, done_of, sit_of}
 use Rattle.nz_input.specs.Stops.{Begins, IsStuck, Stops}
 use Rattle.nz_text.proofs.Gaps.{skip-gap, skip-foreign, skip-nil, IsGap-nil}
 use Rattle.nz_input.proofs.Pieces.{spells-solid, spells-some}
-use Rattle.nz_input.proofs.Laying.{Reads, IsReady, covers-split, lays-reads, append-some, reaches-is, same-run, skip-piece, gap-edge, gap-edge-nil}
+use Rattle.nz_text.proofs.OneStep.{same-run}
+use Rattle.nz_input.proofs.Laying.{Reads, IsReady, covers-split, lays-reads, append-some, reaches-is, skip-piece, gap-edge, gap-edge-nil}
 use Rattle.nz_input.proofs.Going.{steps-append, columns-some}
-use Rattle.nz_input.proofs.Completing.{plain, plain-dimension, plain-count, plain-number, Behind, IsApart, apart-ready, prefix-gap, prefix-piece, prefix-comment, ends-at, ends-open}
+use Rattle.nz_input.proofs.Completing.{plain-dimension, plain-count, plain-number, Behind, IsApart, apart-ready, prefix-gap, prefix-piece, prefix-comment, ends-at, ends-open}
+use Rattle.nz_input.specs.Endings.{plain}
 use Rattle.nz_input.specs.Files.{FileData, HasRows}
 use Rattle.nz_input.specs.Symbols.{Spells, Entry, OfItem, OfGoal, IsEntry, row_count, entry_symbols, symbols}
 use Rattle.nz_input.specs.Texts.{IsTextOf, Gap}
@@ -190,7 +192,7 @@ ready-end : (done : List Symbol) (gap : List ℕ) → IsGap gap → IsReady done
 ready-end [] gap g = tt
 ready-end (s ∷ done) gap g = gap-edge-nil gap g
 
-skip-whole : (gap : List ℕ) → IsGap gap → skip Outside gap ≡ Reaches []
+pub skip-whole : (gap : List ℕ) → IsGap gap → skip Outside gap ≡ Reaches []
 skip-whole gap g = ap (skip Outside) (sym (append-nil gap)) ∙ skip-gap gap [] g ∙ skip-nil
 
 some-apart : (done : List Symbol) (gap : List ℕ) → gap ≢ [] → IsApart done gap

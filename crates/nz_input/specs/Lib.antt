@@ -11,4 +11,5 @@ pub mod Progress
 pub mod Stops
 pub mod Shows
 pub mod Reading
+pub mod Endings
 pub mod Laws

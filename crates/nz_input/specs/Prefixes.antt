@@ -1,5 +1,5 @@
 -- The longest prefix of some bytes that is a prefix of a text, and what is wrong behind it: for any relation of bytes and values, any sites at which a prefix ends, and any table of faults.
-use Rattle.std.specs.Prelude.{◌≡◌, ℕ, List, [], ◌∷◌, ◌++◌, length, Option, Some, None}
+use Rattle.std.specs.Prelude.{◌≡◌, ℕ, [], ◌∷◌, ◌++◌, length, Option, Some, None}
 use Rattle.nz_vec.specs.Texts.{Text}
 use Rattle.nz_input.specs.declared.refusal.Fault.{Fault}
 

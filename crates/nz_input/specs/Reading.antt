@@ -23,7 +23,7 @@ IsStopped text NoMemory = Unit {0}
 
 -- the file that a reader holds between two entries
 abbrev pub held : Reader → FileData
-held r = record { amb = r.amb; items = r.items; goals = r.goals }
+held r = record { amb = r.entries.amb; items = r.entries.items; goals = r.entries.goals }
 
 -- What a reader at its place makes of the end of the text, behind a piece of the role that began at the start.
 abbrev pub Finishes : Reader → Text → ℕ → Role → ℕ → Result FileData Stop → Type 0

@@ -16,7 +16,7 @@ use Rattle.nz_vec.specs.Texts.{Text}
 use Rattle.nz_text.specs.Places.{line_at, column_at}
 use Rattle.nz_input.specs.declared.refusal.ReadRefusal.{ReadRefusal}
 use Rattle.nz_input.specs.declared.refusal.ReadRefusal.TheVariants as refusal
-use Rattle.nz_input.specs.Texts.{Separator, Gap, Break, behind, Parts, Lays, IsTextOf}
+use Rattle.nz_input.specs.Texts.{Separator, Gap, behind, Parts, Lays, IsTextOf}
 use Rattle.nz_input.specs.Prefixes.{IsPrefixIn, EndsIn, IsRefusedIn}
 
 -- what sort of symbol it is
@@ -54,9 +54,11 @@ abbrev pub EndsAt : Text → Site → Type 0
 EndsAt bytes InComment = (done : List Symbol) × (front comment : Text) × (bytes ≡ front ++ comment) × Lays Gap done front × IsOpenComment comment
 EndsAt bytes (AtPiece role begun) = (done : List Symbol) × IsNext done role × Precedes Gap done bytes begun × AllByRecursion (λ b. class_of b ≡ Solid) begun
 
+-- 0 to 9
 abbrev pub is_digit : ℕ → Bool
 is_digit b = nat_le 48 b && nat_le b 57
 
+-- A to Z, or a to z
 abbrev pub is_letter : ℕ → Bool
 is_letter b = (nat_le 65 b && nat_le b 90) || (nat_le 97 b && nat_le b 122)
 
@@ -64,20 +66,18 @@ is_letter b = (nat_le 65 b && nat_le b 90) || (nat_le 97 b && nat_le b 122)
 abbrev pub is_numeric : ℕ → Bool
 is_numeric b = is_digit b || ((b == 43) || (b == 45))
 
+-- no blank, no slash and none of the other bytes that may stand outside comments
 abbrev pub is_foreign_class : Class → Bool
 is_foreign_class Foreign = true
 is_foreign_class Blank = false
 is_foreign_class Slash = false
 is_foreign_class Solid = false
 
+-- a byte that may stand in comments alone
 abbrev pub is_foreign : ℕ → Bool
 is_foreign b = is_foreign_class (class_of b)
 
 -- ---- the table, for what is no comment and no foreign byte
-
-abbrev pub begins_with_digit : Text → Bool
-begins_with_digit [] = false
-begins_with_digit (b ∷ bytes) = is_digit b
 
 -- only the digit 0
 abbrev pub all_zero : Text → Bool
@@ -89,27 +89,33 @@ abbrev pub at_end : Text → Fault
 at_end [] = fault.TooFew
 at_end (b ∷ begun) = if is_digit b then fault.TooFew else fault.Number
 
+-- where the dimension must come, or has begun
 abbrev pub in_dimension : Text → Option ℕ → Fault
 in_dimension [] None = fault.TooFew
 in_dimension (b ∷ begun) None = fault.Number
 in_dimension begun (Some b) = if is_digit b then fault.TooWide else fault.Number
 
+-- where a row count must come, or has begun
 abbrev pub in_count : Text → Option ℕ → Fault
 in_count begun None = at_end begun
 in_count begun (Some b) = if is_digit b then fault.TooWide else fault.Number
 
+-- where a number must come, or has begun
 abbrev pub in_number : Text → Option ℕ → Fault
 in_number begun None = at_end begun
 in_number [] (Some b) = if is_letter b then fault.TooFew else fault.Number
 in_number (a ∷ begun) (Some b) = if is_digit b then fault.TooWide else fault.Number
 
+-- where an entry may begin, or has begun
 abbrev pub in_entry : Text → Option ℕ → Fault
 in_entry [] (Some b) = if is_numeric b then fault.TooMany else fault.Word
 in_entry begun next = fault.Word
 
+-- where `amb_space` must come, or has begun; it has 9 bytes
 abbrev pub in_first : Text → Fault
 in_first begun = if length begun == 9 then fault.Word else fault.NoAmb
 
+-- where a symbol of this sort must come, or has begun
 abbrev pub in_role : Role → Text → Option ℕ → Fault
 in_role First begun next = in_first begun
 in_role Dimensional begun next = in_dimension begun next

@@ -21,8 +21,8 @@ mod writing;
 pub use file::{File, Goals, Item, Items};
 pub use kind::{Goal, Kind, Mode, WORDS, Word};
 pub use laws::{
-    canonical_texts_tell_files, refusals_are_unique, texts_have_one_file, texts_keep_limits,
-    written_files_are_read_back,
+    canonical_texts_tell_files, prefixes_have_endings, refusals_are_unique, texts_have_one_file,
+    texts_keep_limits, written_files_are_read_back,
 };
 pub use nz_vec::NoMemory;
 pub use reading::read;

@@ -4,6 +4,7 @@ use Rattle.std.specs.List.{AllByRecursion as Each, Contains}
 use Rattle.nz_spec.specs.Vectors.{Vector, scaled, combination, HasWidth}
 use Rattle.nz_spec.specs.Sums.{IsInCone}
 use Rattle.nz_spec.proofs.SumLaws.{IsInCone-plus, IsInCone-zero}
+use Rattle.nz_linear.proofs.Lists.{each_map}
 use Rattle.nz_linear.proofs.Cones.{above_zero, cone_skip, cone_head, cone_scaled, cone_divide}
 
 pub cone_member : (w : ℕ) (gens : List Vector) (g : Vector) → Each (HasWidth w) gens → Contains gens g → IsInCone w gens g
@@ -19,3 +20,7 @@ sum_within w (g ∷ gens) others (c ∷ cs) l n i = IsInCone-plus w others (scal
 -- if each generator is in another cone, all of the cone is
 pub cone_within : (w : ℕ) (gens others : List Vector) (x : Vector) → Each (HasWidth w) others → Each (IsInCone w others) gens → IsInCone w gens x → IsInCone w others x
 cone_within w gens others x l i k = cone_divide w others k.multiple x (above_zero k.multiple k.positive) (subst (IsInCone w others) k.same (sum_within w gens others k.factors l k.each i))
+
+-- a longer list, or the same in another order, has no smaller cone
+pub cone_of_members : (w : ℕ) (gens others : List Vector) (x : Vector) → Each (HasWidth w) others → Each (Contains others) gens → IsInCone w gens x → IsInCone w others x
+cone_of_members w gens others x l c i = cone_within w gens others x l (each_map (Contains others) (IsInCone w others) gens (λ g k. cone_member w others g l k) c) i

@@ -1,5 +1,5 @@
 -- Closure of a cone by generators, and the ray that binds first.
-use Rattle.std.proofs.Common.{◌≡◌, ℕ, zero, suc, ◌⊎◌, inl, inr, List, [], ◌∷◌, length, ℤ, pos, ◌+ℤ◌, ◌-ℤ◌, ◌*ℤ◌, neg_ℤ, ◌≤ℤ◌, ◌<ℤ◌, sym, ap, ◌∙◌, arith}
+use Rattle.std.proofs.Common.{◌≡◌, ℕ, suc, ◌⊎◌, inl, inr, List, [], ◌∷◌, length, ℤ, pos, ◌+ℤ◌, ◌-ℤ◌, ◌*ℤ◌, neg_ℤ, ◌≤ℤ◌, ◌<ℤ◌, sym, ap, ◌∙◌, arith}
 use Rattle.std.proofs.lemmas.Int.{by_lt_z}
 use Rattle.std.proofs.Math.IntN.{*ℤ_comm}
 use Rattle.std.specs.List.{AllByRecursion as Each}
@@ -7,20 +7,12 @@ use Rattle.nz_spec.specs.Vectors.{Vector, HasWidth, dot, plus, scaled, zero_vect
 use Rattle.nz_spec.specs.Sums.{IsInCone}
 use Rattle.nz_spec.proofs.IntLaws.{mul-nonneg, mul-pos}
 use Rattle.nz_spec.proofs.VectorLaws.{scaled-scaled}
-use Rattle.nz_spec.proofs.SumLaws.{length-zero_vector, combination-scaled, combination-zeros}
+use Rattle.nz_spec.proofs.SumLaws.{length-zero_vector, combination-scaled, combination-zeros, nonneg-scaled, nonneg_zeros}
 use Rattle.nz_linear.proofs.Ring.{sums, ring_z, neg-mul}
 use Rattle.nz_linear.proofs.Signs.{mul_is_nonneg}
 use Rattle.nz_linear.proofs.Lists.{each_map}
 use Rattle.nz_linear.proofs.VectorLaws.{length-scaled, plus-zero}
 use Rattle.nz_linear.proofs.Combinations.{combination-skip}
-
-nonneg_zero : (n : ℕ) → Each (λ c. pos 0 ≤ℤ c) (zero_vector n)
-nonneg_zero zero = tt
-nonneg_zero (suc n) = (omega (arith, sums), nonneg_zero n)
-
-pub nonneg_scaled : (k : ℤ) (cs : List ℤ) → pos 0 ≤ℤ k → Each (λ c. pos 0 ≤ℤ c) cs → Each (λ c. pos 0 ≤ℤ c) (scaled k cs)
-nonneg_scaled k [] p h = tt
-nonneg_scaled k (c ∷ cs) p h = (mul-nonneg k c p h.0, nonneg_scaled k cs p h.1)
 
 -- the multiple of a sum is positive
 pub above_zero : (m : ℤ) → pos 1 ≤ℤ m → pos 0 <ℤ m
@@ -42,7 +34,7 @@ cone_head w g gens l a = record {
   multiple = pos 1;
   positive = omega (arith, sums);
   factors = pos 1 ∷ zero_vector (length gens);
-  each = (omega (arith, sums), nonneg_zero (length gens));
+  each = (omega (arith, sums), nonneg_zeros (length gens));
   one_each = ap suc (length-zero_vector (length gens));
   same = ap (plus (scaled (pos 1) g)) (combination-zeros w gens a) ∙ plus-zero w (scaled (pos 1) g) (length-scaled w (pos 1) g l);
 }
@@ -52,7 +44,7 @@ cone_scaled w gens k x p i = record {
   multiple = i.multiple;
   positive = i.positive;
   factors = scaled k i.factors;
-  each = nonneg_scaled k i.factors p i.each;
+  each = nonneg-scaled k i.factors p i.each;
   one_each = length-scaled _ k i.factors i.one_each;
   same = combination-scaled w k i.factors gens ∙ ap (scaled k) i.same ∙ scaled-scaled k i.multiple x ∙ ap (λ t. scaled t x) (*ℤ_comm k i.multiple) ∙ sym (scaled-scaled i.multiple k x);
 }

@@ -1,17 +1,18 @@
 -- A row that vanishes at the vectors left is a sum of the chosen rows; a dual pair has at most as many pairs as the width, and a complete one as many.
 use Rattle.std.proofs.Common.{◌≡◌, ℕ, zero, suc, ◌+◌, ◌≤◌, inl, inr, List, [], ◌∷◌, ◌++◌, length, map, ℤ, pos, ◌*ℤ◌, refl, sym, ap, ◌∙◌, arith, length-append}
 use Rattle.std.proofs.Math.IntN.{*ℤ_comm}
-use Rattle.std.proofs.lemmas.List.{length-map}
+use Rattle.std.proofs.lemmas.List.{length-map, map-append}
 use Rattle.std.specs.List.{AllByRecursion as Each, Contains}
 use Rattle.nz_spec.specs.Vectors.{Vector, dot, plus, scaled}
 use Rattle.nz_spec.proofs.ListLaws.{Each-contains}
+use Rattle.nz_spec.proofs.EquationLaws.{dot_comm}
 use Rattle.nz_linear.specs.DualPairs.{Pair, pair_of, divisor, IsApart, HasWidths, IsDual, IsDualPair, AllVanish, OnlyZero, product, spread}
 use Rattle.nz_linear.specs.Elimination.{IsState, shifted, unit_pairs}
 use Rattle.nz_linear.proofs.Ring.{sums, ring_z}
 use Rattle.nz_linear.proofs.Signs.{mul_pos}
 use Rattle.nz_linear.proofs.Lists.{each_map, each_left, each_right, each_of_map, map_each}
 use Rattle.nz_spec.proofs.VectorLaws.{dot-zero, scaled-zero, scaled-plus, scaled-scaled}
-use Rattle.nz_linear.proofs.VectorLaws.{length-scaled, scaled-dot, dot_comm, cancel_scaled}
+use Rattle.nz_linear.proofs.VectorLaws.{length-scaled, scaled-dot, cancel_scaled}
 use Rattle.nz_linear.proofs.DualPairs.{product_positive, length-spread, dual_left, dual_right}
 use Rattle.nz_linear.proofs.Elimination.{spread_vanishes, pivot_keeps}
 use Rattle.nz_linear.proofs.Elimination.{pivot_keeps}
@@ -28,10 +29,6 @@ product-append (x ∷ xs) ys = ap (λ t. divisor x *ℤ t) (product-append xs ys
   where
     ring_left : (a b c : ℤ) → a *ℤ (b *ℤ c) ≡ b *ℤ (a *ℤ c)
     ring_left a b c = simp ring_z
-
-map-append : (xs ys : List Pair) → map swap (xs ++ ys) ≡ map swap xs ++ map swap ys
-map-append [] ys = refl
-map-append (x ∷ xs) ys = ap (λ t. swap x ∷ t) (map-append xs ys)
 
 spread-append : (w : ℕ) (xs ys : List Pair) (y : Vector) → Each (HasWidths w) ys → AllVanish ys y → spread w (xs ++ ys) y ≡ scaled (product ys) (spread w xs y)
 spread-append w [] ys y h z = spread_vanishes w ys y h z ∙ sym (scaled-zero (product ys) w)
@@ -59,7 +56,7 @@ dependent_row w h seen chosen free lh s z =
     let P = product free in
     let zf : AllVanish (map swap free) h = each_of_map swap (λ (q : Pair). dot q.form h ≡ pos 0) free (each_map (λ (p : Pair). dot h p.vector ≡ pos 0) (λ (p : Pair). dot p.vector h ≡ pos 0) free (λ p e. dot_comm p.vector h ∙ e) z) in
     let e : scaled (product (chosen ++ free)) h ≡ scaled P (spread w (map swap chosen) h) =
-    form_expansion w (chosen ++ free) h s.pair s.only_zero lh ∙ ap (λ t. spread w t h) (map-append chosen free) ∙ spread-append w (map swap chosen) (map swap free) h (swapped_widths w free wf) zf
+    form_expansion w (chosen ++ free) h s.pair s.only_zero lh ∙ ap (λ t. spread w t h) (map-append swap chosen free) ∙ spread-append w (map swap chosen) (map swap free) h (swapped_widths w free wf) zf
     ∙ ap (λ t. scaled t (spread w (map swap chosen) h)) (swapped_product free) in
     cancel_scaled w P (scaled (product chosen) h) (spread w (map swap chosen) h) (product_positive free df) (length-scaled w (product chosen) h lh) (length-spread w (map swap chosen) h (swapped_widths w chosen wc))
     (scaled-scaled P (product chosen) h ∙ ap (λ t. scaled t h) (sym (product-append chosen free)) ∙ e)

@@ -1,28 +1,33 @@
 -- Farkas for a list with its support forms and equations: they describe its cone, and each support form is needed.
-use Rattle.std.proofs.Common.{◌≡◌, ℕ, List, [], ◌∷◌, ℤ, pos, negsuc, ◌+ℤ◌, ◌*ℤ◌, ◌≤ℤ◌, ◌<ℤ◌, sym, ap, ap₂, ◌∙◌, subst, arith}
+use Rattle.std.proofs.Common.{◌↔◌, ◌≡◌, ℕ, List, [], ◌∷◌, ℤ, pos, negsuc, ◌+ℤ◌, ◌*ℤ◌, ◌≤ℤ◌, ◌<ℤ◌, sym, ap, ap₂, ◌∙◌, subst, arith}
 use Rattle.std.proofs.lemmas.Int.{ints}
 use Rattle.std.proofs.Math.IntN.{*ℤ-zero}
 use Rattle.std.specs.List.{AllByRecursion as Each, AllZip, Contains}
 use Rattle.nz_spec.specs.Vectors.{Vector, dot, plus, scaled, entry, HasWidth, IsNonzero, IsZero}
 use Rattle.nz_spec.specs.Sums.{IsInCone}
-use Rattle.nz_spec.specs.Forms.{IsEquationAt, AreEquations, IsSupportForm}
+use Rattle.nz_spec.specs.Forms.{AreEquations, IsSupportForm}
 use Rattle.nz_spec.specs.Laws.{IsDescribedCone}
+use Rattle.nz_spec.specs.Systems.{System, IsSystem, IsMember}
+use Rattle.nz_spec.specs.Constraints.{AreEquationsOf, AreRowsOf}
+use Rattle.nz_spec.specs.Stages.{IsInLattice, IsInStage}
+use Rattle.nz_spec.proofs.StageLaws.{members_last_stage}
 use Rattle.nz_spec.proofs.VectorLaws.{dot-scaled, dot-IsZero}
 use Rattle.nz_spec.proofs.IntLaws.{mul-nonneg}
 use Rattle.nz_spec.proofs.ListLaws.{Each-contains, Each-from_contains}
-use Rattle.nz_spec.proofs.ConstraintLaws.{nonneg_on_cone, zero_on_cone}
+use Rattle.nz_spec.proofs.ConstraintLaws.{nonneg_on_cone, support_met, equations_met}
+use Rattle.nz_spec.proofs.EquationLaws.{dot_comm, AreEquations-unique}
+use Rattle.nz_spec.proofs.MemberLaws.{if_some_each}
 use Rattle.nz_linear.specs.DualPairs.{Pair, divisor, HasWidths, IsDual, product, spread}
 use Rattle.nz_linear.specs.Division.{IsPrimitiveOf}
 use Rattle.nz_linear.specs.Cones.{Satisfies}
 use Rattle.nz_linear.specs.Facets.{IsValidForm, facet_rows}
 use Rattle.nz_linear.proofs.Ring.{sums}
 use Rattle.nz_linear.proofs.Signs.{mul_is_nonneg}
-use Rattle.nz_linear.proofs.Lists.{each_map, each_map2, each_right, zip_to_right}
-use Rattle.nz_linear.proofs.VectorLaws.{length-plus, length-scaled, dot-plus, scaled-dot, dot_comm}
+use Rattle.nz_linear.proofs.Lists.{each_map, each_map2, each_right}
+use Rattle.nz_linear.proofs.VectorLaws.{length-plus, length-scaled, dot-plus, scaled-dot}
 use Rattle.nz_linear.proofs.Division.{primitive_of}
 use Rattle.nz_linear.proofs.DualPairs.{dual_right, length-spread, vanishes_at_spread, values_at_spread, product_positive}
 use Rattle.nz_linear.proofs.Farkas.{described, generated}
-use Rattle.nz_linear.proofs.NormalForms.{equations_unique}
 use Rattle.nz_linear.proofs.KeyColumns.{SomeEchelon, echelon, IsLeft, all_left, columns_are_other, equations_of_left}
 use Rattle.nz_linear.proofs.Rank.{seen_vanish}
 use Rattle.nz_linear.proofs.RayExistence.{extreme_rays_exist}
@@ -41,6 +46,7 @@ primitives (p ∷ free) d =
     let f = primitive_of p.vector n in
     record { list = f.y ∷ t.list; each = (f.is, t.each) }
 
+-- a list of the equations of G
 pub record SomeEquations (w : ℕ) (G : List Vector) : Type 0 where
   pub equations : List Vector
   pub are : AreEquations w G equations
@@ -112,7 +118,7 @@ described_back w G support equations x lG lx has eq s z =
     let a = echelon w G lG in
     let p = primitives a.free (dual_right a.chosen a.free a.state.pair.dual) in
     let others = columns_are_other w G a.columns a.chosen a.free lG a.state a.are_columns in
-    let same = equations_unique w G equations p.list lG eq (equations_of_left w G a.columns a.chosen a.free p.list lG a.state a.are_columns p.each) in
+    let same = AreEquations-unique w G equations p.list lG eq (equations_of_left w G a.columns a.chosen a.free p.list lG a.state a.are_columns p.each) in
     let zero = left_zero x a.free p.list p.each (subst (λ (fs : List Vector). Each (λ f. dot f x ≡ pos 0) fs) same z) in
     let rows = facet_rows w a.columns G in
     let e = extreme_rays_exist w rows (facet_rows_width w a.columns G lG) (facet_rows_pointed w G a.columns others lG) in
@@ -126,12 +132,14 @@ described_back w G support equations x lG lx has eq s z =
     let v : pos 0 ≤ℤ dot x t.form = nonneg_on_cone x w e.rays t.form e.are.description.ray_widths at_rays i in
     rw (dot_comm r x) (mul_is_nonneg t.multiple (dot x r) t.positive (rw (← t.same x zero) v))) d.is.ray_widths d.is.sound)
 
-equations_zero : (w : ℕ) (G : List Vector) (x : Vector) (columns : List ℕ) (fs : List Vector) → Each (HasWidth w) G → AllZip (IsEquationAt w G) columns fs → IsInCone w G x → Each (λ f. dot f x ≡ pos 0) fs
-equations_zero w G x columns fs lG z i = zip_to_right (IsEquationAt w G) (λ f. dot f x ≡ pos 0) columns fs (λ c f e. zero_on_cone f w G x lG e.zero_on i) z
-
 -- the support forms and the equations of a list describe its cone
 pub described_cone : (w : ℕ) (G : List Vector) → Each (HasWidth w) G → IsDescribedCone w G
 described_cone w G lG support equations s e x lx = (
-  (λ i. (each_map (IsSupportForm w G) (λ f. pos 0 ≤ℤ dot f x) support (λ f k. nonneg_on_cone f w G x lG k.at_least i) s.only, equations_zero w G x e.columns equations lG e.each i)),
+  (λ i. (support_met w G x support lG s.only i, equations_met w G x e.columns equations lG e.each i)),
   (λ h. described_back w G support equations x lG lx s.each e h.0 h.1),
 )
+
+-- ---- the members of a system
+-- the members of a system are its last stage
+pub members_are_last_stage : (s : System) (equations rows : List Vector) → IsSystem s → AreEquationsOf s equations → AreRowsOf s rows → (x : Vector) → IsMember s x ↔ IsInStage (IsInLattice s equations) rows x
+members_are_last_stage s equations rows is e r = members_last_stage s equations rows e r (if_some_each s.gens (λ G. Each (HasWidth s.width) G) (IsDescribedCone s.width) (λ (G : List Vector) l. described_cone s.width G l) is.gens_width)

@@ -55,12 +55,9 @@ sums_differ w h rows rays p n q m x lp ln lq lm un up um uq kq km sq sm adj i j 
     second (inr e) = e
 
 -- ---- the whole list
-pub pairwise_append : {A : Type 0} (R : A → A → Type 0) (xs ys : List A) → Pairwise R xs → Pairwise R ys → Each (λ x. Each (R x) ys) xs → Pairwise R (xs ++ ys)
+pairwise_append : {A : Type 0} (R : A → A → Type 0) (xs ys : List A) → Pairwise R xs → Pairwise R ys → Each (λ x. Each (R x) ys) xs → Pairwise R (xs ++ ys)
 pairwise_append R [] ys p q k = q
 pairwise_append R (x ∷ xs) ys p q k = (each_append (R x) xs ys p.0 k.0, pairwise_append R xs ys p.1 q k.1)
-
-pub pairwise_push : {A : Type 0} (R : A → A → Type 0) (xs : List A) (x : A) → Pairwise R xs → Each (λ y. R y x) xs → Pairwise R (xs ++ (x ∷ []))
-pairwise_push R xs x p k = pairwise_append R xs (x ∷ []) p (tt, tt) (each_map (λ y. R y x) (λ y. Each (R y) (x ∷ [])) xs (λ y r. (r, tt)) k)
 
 -- a new sum is none of those before it: neither a ray kept nor the sum of another pair
 pub sum_is_new : (w : ℕ) (h : Vector) (rows rays : List Vector) (pair : RayPair) (x : Vector) (before : List Vector) → Each (HasWidth w) rays → Each (Satisfies rows) rays → IsAdjacentPair h rows rays pair → IsPrimitiveOf (meet h pair.above pair.below) x

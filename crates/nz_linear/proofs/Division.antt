@@ -8,11 +8,12 @@ use Rattle.nz_spec.specs.Vectors.{Vector, dot, scaled, IsMultipleOf, IsPrimitive
 use Rattle.nz_spec.specs.Boxes.{IsFloor}
 use Rattle.nz_linear.specs.Division.{IsGcdOf, HasUnitValue, IsPrimitiveOf}
 use Rattle.nz_spec.proofs.IntLaws.{add-mul, mul_assoc, multiple_zero, multiple_add, multiple_mul}
+use Rattle.nz_spec.proofs.PrimitiveLaws.{primitive_same, one_of_divisor}
 use Rattle.nz_linear.proofs.Ring.{sums, ring_z, one-mul, mul-one}
-use Rattle.nz_linear.proofs.Signs.{cancel_lt, cancel_mul, mul_le, mul_is_pos, sign_cases}
+use Rattle.nz_linear.proofs.Signs.{cancel_lt, cancel_mul, sign_cases}
 use Rattle.nz_linear.proofs.Lists.{each_map}
-use Rattle.nz_spec.proofs.VectorLaws.{dot-IsZero, dot-scaled}
-use Rattle.nz_linear.proofs.VectorLaws.{cons_same, scaled-dot, cancel_scaled}
+use Rattle.nz_spec.proofs.VectorLaws.{dot-IsZero, dot-scaled, int_is_zero}
+use Rattle.nz_linear.proofs.VectorLaws.{length-scaled, cons_same, scaled-dot}
 
 -- ---- floor division
 pub record Floor (x d : ℤ) : Type 0 where
@@ -88,6 +89,7 @@ euclid (suc n) a (suc b) h =
 multiple_of_multiple : (m k x : ℤ) → IsMultipleOf m k → IsMultipleOf k x → IsMultipleOf m x
 multiple_of_multiple m k x h i = (i.0 *ℤ h.0, i.1 ∙ ap (λ t. i.0 *ℤ t) h.1 ∙ sym (mul_assoc i.0 h.0 m))
 
+-- a greatest common divisor
 pub record SomeGcd (xs : Vector) : Type 0 where
   pub g : ℤ
   pub is : IsGcdOf g xs
@@ -124,27 +126,17 @@ quotients : (m : ℤ) (xs : Vector) → Each (IsMultipleOf m) xs → (ys : Vecto
 quotients m [] h = ([], refl)
 quotients m (x ∷ xs) h = let r = quotients m xs h.1 in (h.0.0 ∷ r.0, cons_same (*ℤ_comm m h.0.0 ∙ sym h.0.1) r.1)
 
--- a positive integer that is a multiple of a positive one is not below it
-multiple_not_below : (a b : ℤ) → pos 0 <ℤ a → pos 0 <ℤ b → IsMultipleOf b a → b ≤ℤ a
-multiple_not_below a b p q m =
-    let k : pos 0 <ℤ m.0 = mul_is_pos b m.0 q (omega (arith, sums, m.1, *ℤ_comm b m.0)) in
-    omega (arith, sums, mul_le b (pos 1) m.0 (omega (arith, sums)) (omega (arith, sums)), mul-one b, *ℤ_comm b m.0, m.1)
-
--- a divisor of 1 that is at least 0 is 1
-divides_one : (g : ℤ) → pos 0 ≤ℤ g → IsMultipleOf g (pos 1) → g ≡ pos 1
-divides_one g h m = elim (sign_cases g) [
+-- a vector is primitive just where some form has the value 1 at it
+gcd_nonzero : (g : ℤ) → pos 0 ≤ℤ g → IsMultipleOf g (pos 1) → pos 1 ≤ℤ g
+gcd_nonzero g h m = elim (int_is_zero g) [
   | inl z ↦ absurd (let e : pos 1 ≡ pos 0 = m.1 ∙ ap (λ t. m.0 *ℤ t) z ∙ *ℤ-zero m.0 in omega (arith, sums))
-  | inr s ↦ elim s [
-    | inl p ↦ (let b = multiple_not_below (pos 1) g (omega (arith, sums)) p m in omega (arith, sums))
-    | inr q ↦ absurd (omega (arith, sums))
-  ]
+  | inr n ↦ omega (arith, sums)
 ]
 
--- a vector is primitive just where some form has the value 1 at it
 pub unit_value : (x : Vector) → IsPrimitive x → HasUnitValue x
 unit_value x p =
     let r = gcd_of x in
-    record { form = r.is.factors; one = sym r.is.same ∙ divides_one r.g r.is.nonneg (p r.g r.is.divides) }
+    record { form = r.is.factors; one = sym r.is.same ∙ one_of_divisor r.g (gcd_nonzero r.g r.is.nonneg (p r.g r.is.divides)) (p r.g r.is.divides) }
 
 pub primitive_by_unit : (x : Vector) → HasUnitValue x → IsPrimitive x
 primitive_by_unit x u d h = subst (IsMultipleOf d) u.one (multiple_dot d u.form x h)
@@ -154,6 +146,7 @@ primitive_nonzero x p z =
     let u = unit_value x p in
     let e : pos 1 ≡ pos 0 = sym u.one ∙ dot-IsZero u.form x z in omega (arith, sums)
 
+-- a primitive vector along x
 pub record SomePrimitive (x : Vector) : Type 0 where
   pub y : Vector
   pub is : IsPrimitiveOf x y
@@ -185,11 +178,7 @@ primitive_multiple a b x y e p =
 
 -- two primitive vectors with a common positive multiple are the same
 pub primitive_unique : (w : ℕ) (a b : ℤ) (x y : Vector) → pos 0 <ℤ a → pos 0 <ℤ b → length x ≡ w → length y ≡ w → scaled a x ≡ scaled b y → IsPrimitive x → IsPrimitive y → x ≡ y
-primitive_unique w a b x y p q lx ly e i j =
-    let s = multiple_not_below a b p q (primitive_multiple a b x y e i) in
-    let t = multiple_not_below b a q p (primitive_multiple b a y x (sym e) j) in
-    let same : a ≡ b = omega (arith, sums) in
-    cancel_scaled w b x y q lx ly (ap (λ t. scaled t x) (sym same) ∙ e)
+primitive_unique w a b x y p q lx ly e i j = primitive_same a b x y (omega (arith, sums)) (omega (arith, sums)) i j e
 
 -- ---- a congruence for a coordinate: a * c is a multiple of m exactly where c is one of m / gcd(a, m)
 ring_forth : (g a m c t j k : ℤ) → a *ℤ c ≡ t *ℤ m → pos 1 ≡ j *ℤ a +ℤ k *ℤ m → c ≡ (j *ℤ t +ℤ k *ℤ c) *ℤ m
@@ -230,3 +219,10 @@ gcd_multiple g a m c (t, e) = (a *ℤ t, ap (λ x. (g *ℤ a) *ℤ x) e ∙ ring
   where
     ring_back : (g a m t : ℤ) → (g *ℤ a) *ℤ (t *ℤ m) ≡ (a *ℤ t) *ℤ (g *ℤ m)
     ring_back g a m t = simp ring_z
+
+pub primitive_of_unique : (w : ℕ) (x y z : Vector) → length x ≡ w → IsPrimitiveOf x y → IsPrimitiveOf x z → y ≡ z
+primitive_of_unique w x y z l i j =
+    primitive_unique w i.factor j.factor y z i.positive j.positive (wide y i) (wide z j) (i.same ∙ sym j.same) i.primitive j.primitive
+  where
+    wide : (v : Vector) → IsPrimitiveOf x v → length v ≡ w
+    wide v k = sym (length-scaled (length v) k.factor v refl) ∙ ap length k.same ∙ l

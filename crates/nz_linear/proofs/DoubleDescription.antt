@@ -7,6 +7,7 @@ use Rattle.nz_spec.specs.Vectors.{Vector, dot, scaled}
 use Rattle.nz_spec.specs.Sums.{IsInCone}
 use Rattle.nz_spec.proofs.ConstraintLaws.{nonneg_on_cone}
 use Rattle.nz_spec.proofs.IntLaws.{mul-nonneg}
+use Rattle.nz_spec.proofs.EquationLaws.{dot_comm}
 use Rattle.nz_linear.specs.Cones.{Satisfies, IsDoubleDescription, meet}
 use Rattle.nz_linear.specs.Extreme.{IsPointed, Splits}
 use Rattle.nz_linear.specs.DoubleDescription.{HaveApartZeros, IsThird, HasThird, IsPrunedCut}
@@ -14,7 +15,7 @@ use Rattle.nz_linear.proofs.Ring.{zero_sum, cross_gone, sums, ring_z, neg-mul}
 use Rattle.nz_linear.proofs.Signs.{mul_pos, mul_is_zero}
 use Rattle.nz_linear.proofs.Lists.{each_map, each_map2, each_map3, each_map4}
 use Rattle.nz_spec.proofs.VectorLaws.{dot-scaled}
-use Rattle.nz_linear.proofs.VectorLaws.{length-scaled, dot_comm, dot-plus}
+use Rattle.nz_linear.proofs.VectorLaws.{length-scaled, dot-plus}
 use Rattle.nz_linear.proofs.Farkas.{meet_width, meet_sound, full_cut, farkas_step, generated}
 use Rattle.nz_linear.proofs.Extreme.{unsplit_generate}
 

@@ -5,12 +5,13 @@ use Rattle.std.specs.List.{AllByRecursion as Each}
 use Rattle.nz_spec.specs.Vectors.{Vector, dot, scaled, zero_vector, combination}
 use Rattle.nz_spec.proofs.SumLaws.{length-zero_vector}
 use Rattle.nz_spec.proofs.IntLaws.{mul-nonneg}
+use Rattle.nz_spec.proofs.EquationLaws.{dot_comm}
 use Rattle.nz_linear.specs.DualPairs.{Pair, pair_of, divisor, IsApart, HasWidths, IsDual, IsDualPair, OnlyZero, product, spread, spread_factors}
 use Rattle.nz_linear.specs.Cones.{Satisfies, IsDoubleDescription}
 use Rattle.nz_linear.proofs.Ring.{sums, ring_z, mul-one}
 use Rattle.nz_linear.proofs.Lists.{each_map, each_of_map, map_each}
 use Rattle.nz_spec.proofs.VectorLaws.{dot-zero, zero-dot, dot-scaled}
-use Rattle.nz_linear.proofs.VectorLaws.{cons_same, length-scaled, dot_comm, scaled-dot, plus-dot, scaled_is_zero}
+use Rattle.nz_linear.proofs.VectorLaws.{cons_same, length-scaled, scaled-dot, plus-dot, scaled_is_zero}
 use Rattle.nz_linear.proofs.DualPairs.{product_positive, length-spread, value_step, expansion, spread_is, length-factors}
 use Rattle.nz_linear.proofs.Elimination.{all_of_width, complete_of, spread_vanishes}
 

@@ -18,6 +18,10 @@ pub product_positive : (ps : List Pair) → IsDual ps → pos 0 <ℤ product ps
 product_positive [] d = omega (arith, sums)
 product_positive (p ∷ ps) d = mul_pos (divisor p) (product ps) d.0 (product_positive ps d.2)
 
+pub divisors_positive : (ps : List Pair) → IsDual ps → Each (λ p. pos 0 <ℤ divisor p) ps
+divisors_positive [] d = tt
+divisors_positive (p ∷ ps) d = (d.0, divisors_positive ps d.2)
+
 pub length-spread : (w : ℕ) (ps : List Pair) (x : Vector) → Each (HasWidths w) ps → length (spread w ps x) ≡ w
 length-spread w [] x h = length-zero_vector w
 length-spread w (p ∷ ps) x h = length-plus w _ _ (length-scaled w _ p.vector h.0.vector_width) (length-scaled w _ (spread w ps x) (length-spread w ps x h.1))

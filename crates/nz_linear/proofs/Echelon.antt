@@ -4,6 +4,7 @@ use Rattle.std.proofs.Math.IntN.{*ℤ-zero, zero-*ℤ}
 use Rattle.std.specs.List.{AllByRecursion as Each, AllZip, range_with_len}
 use Rattle.nz_spec.specs.Vectors.{Vector, dot, zero_vector, entry, HasWidth}
 use Rattle.nz_spec.specs.Order.{Pairwise}
+use Rattle.nz_spec.proofs.EquationLaws.{entry-scaled}
 use Rattle.nz_linear.specs.DualPairs.{Pair, HasWidths}
 use Rattle.nz_linear.specs.Elimination.{IsCleared, IsPivotStep, shifted, unit_pairs}
 use Rattle.nz_linear.specs.Echelon.{unit_at, IsColumnPair, AreColumnPairs}
@@ -12,7 +13,7 @@ use Rattle.nz_linear.proofs.Ring.{sums, one-mul}
 use Rattle.nz_linear.proofs.Signs.{mul_is_zero}
 use Rattle.nz_linear.proofs.Lists.{each_left, each_right, each_remove}
 use Rattle.nz_linear.proofs.VectorLaws.{length-scaled}
-use Rattle.nz_linear.proofs.Units.{entry-scaled, entry-zero_vector, unit_at-dot}
+use Rattle.nz_linear.proofs.Units.{entry-zero_vector, unit_at-dot}
 use Rattle.nz_linear.proofs.Elimination.{cleared_at_form}
 
 -- ---- the start: all columns
@@ -126,9 +127,24 @@ pivot_columns w h columns chosen free new_chosen new_free l a t n s =
     let wide : Each (HasWidths w) (t.pivot ∷ (t.before ++ t.after)) = each_remove (HasWidths w) t.pivot t.before t.after (subst (Each (HasWidths w)) t.split l) in
     let order : Pairwise ◌<◌ (s.front ++ s.column ∷ s.back) = subst (Pairwise ◌<◌) s.whole a.in_order in
     let lu : HasWidth w t.u = ap length t.turned.same ∙ length-scaled w t.turned.sign t.pivot.vector wide.0.vector_width in
-    let after_u : (k : ℕ) → s.column < k → entry t.u k ≡ pos 0 = λ k m. ap (λ x. entry x k) t.turned.same ∙ entry-scaled w t.turned.sign t.pivot.vector k wide.0.vector_width ∙ ap (λ y. t.turned.sign *ℤ y) (s.of_pivot.after k m) ∙ *ℤ-zero t.turned.sign in
+    let after_u : (k : ℕ) → s.column < k → entry t.u k ≡ pos 0 = λ k m. ap (λ x. entry x k) t.turned.same ∙ entry-scaled t.turned.sign t.pivot.vector k ∙ ap (λ y. t.turned.sign *ℤ y) (s.of_pivot.after k m) ∙ *ℤ-zero t.turned.sign in
     record {
       in_order = order_remove s.front s.column s.back order;
       each = front_columns w h t.u s.front t.before s.back t.after new_free lu (each_left (HasWidths w) t.before t.after wide.1) n s.each_front t.clears_free
           (λ ps i. back_columns w s.column h t.u s.back t.after ps lu after_u (each_right (HasWidths w) t.before t.after wide.1) (order_after s.front s.column s.back order) s.each_back i);
     }
+
+-- the columns of a list that is cut at one pair, with as many before it
+columns_cut : (w : ℕ) (front : List ℕ) (c : ℕ) (back : List ℕ) (before : List Pair) (pivot : Pair) (after : List Pair) → length front ≡ length before → AllZip (IsColumnPair w) (front ++ c ∷ back) (before ++ pivot ∷ after)
+    → AllZip (IsColumnPair w) front before × IsColumnPair w c pivot × AllZip (IsColumnPair w) back after
+columns_cut w [] c back [] pivot after l z = (tt, z.0, z.1)
+columns_cut w [] c back (b ∷ before) pivot after l z = absurd (omega arith)
+columns_cut w (d ∷ front) c back [] pivot after l z = absurd (omega arith)
+columns_cut w (d ∷ front) c back (b ∷ before) pivot after l z = let r = columns_cut w front c back before pivot after (omega arith) z.1 in ((z.0, r.0), r.1, r.2)
+
+-- a pivot step leaves out the column at the place of the pivot
+pub pivot_columns_at : (w : ℕ) (h : Vector) (front : List ℕ) (c : ℕ) (back : List ℕ) (chosen free new_chosen new_free : List Pair) → Each (HasWidths w) free → AreColumnPairs w (front ++ c ∷ back) free → (t : IsPivotStep w h chosen free new_chosen new_free)
+    → Each (λ p. dot h p.vector ≡ pos 0) t.before → length front ≡ length t.before → AreColumnPairs w (front ++ back) new_free
+pivot_columns_at w h front c back chosen free new_chosen new_free l a t n e =
+    let r = columns_cut w front c back t.before t.pivot t.after e (subst (AllZip (IsColumnPair w) (front ++ c ∷ back)) t.split a.each) in
+    pivot_columns w h (front ++ c ∷ back) chosen free new_chosen new_free l a t n (record { front = front; column = c; back = back; whole = refl; each_front = r.0; of_pivot = r.1; each_back = r.2 })

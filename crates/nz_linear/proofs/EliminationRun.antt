@@ -8,9 +8,9 @@ use Rattle.nz_spec.proofs.SumLaws.{length-zero_vector}
 use Rattle.nz_linear.specs.DualPairs.{Pair, pair_of, divisor, IsApart, HasWidths, IsDual, IsDualPair, AllVanish, OnlyZero}
 use Rattle.nz_linear.specs.Elimination.{IsPivotStep, IsCleared, IsState, shifted, unit_pairs, CommonZero, DualOfRows}
 use Rattle.nz_linear.proofs.Ring.{sums, one-mul}
-use Rattle.nz_linear.proofs.Signs.{int_zero_or_not, signed}
+use Rattle.nz_linear.proofs.Signs.{signed}
 use Rattle.nz_linear.proofs.Lists.{each_map, each_left, each_right, each_remove, zip_map}
-use Rattle.nz_spec.proofs.VectorLaws.{dot-IsZero, dot-scaled, dot-zero, zero-dot, one-scaled}
+use Rattle.nz_spec.proofs.VectorLaws.{dot-IsZero, dot-scaled, dot-zero, zero-dot, one-scaled, int_is_zero}
 use Rattle.nz_linear.proofs.VectorLaws.{cons_same, length-plus, length-scaled}
 use Rattle.nz_linear.proofs.DualPairs.{dual_right}
 use Rattle.nz_linear.proofs.Elimination.{skip_keeps, pivot_keeps}
@@ -70,7 +70,7 @@ pub record FoundPivot (h : Vector) (ps : List Pair) : Type 0 where
 
 pub find_pivot : (h : Vector) (ps : List Pair) → Each (λ p. dot h p.vector ≡ pos 0) ps ⊎ FoundPivot h ps
 find_pivot h [] = inl tt
-find_pivot h (p ∷ ps) = elim (int_zero_or_not (dot h p.vector)) [
+find_pivot h (p ∷ ps) = elim (int_is_zero (dot h p.vector)) [
   | inl z ↦ elim (find_pivot h ps) [
     | inl all ↦ inl (z, all)
     | inr f ↦ inr (record { before = p ∷ f.before; pivot = f.pivot; after = f.after; split = ap (λ t. p ∷ t) f.split; nonzero = f.nonzero; none_before = (z, f.none_before) })
@@ -91,6 +91,7 @@ clear_is w h u r lu k = record {
   same = one-scaled _;
 }
 
+-- a state after these rows
 pub record SomeState (w : ℕ) (rows : List Vector) : Type 0 where
   pub chosen : List Pair
   pub free : List Pair

@@ -2,17 +2,18 @@
 use Rattle.std.proofs.Common.{◌≡◌, ℕ, zero, suc, ◌<◌, ◌≤◌, ◌⊎◌, inl, inr, List, [], ◌∷◌, length, ℤ, pos, negsuc, ◌+ℤ◌, ◌-ℤ◌, ◌*ℤ◌, neg_ℤ, ◌≤ℤ◌, ◌<ℤ◌, refl, sym, ap, ◌∙◌, subst, arith}
 use Rattle.std.proofs.lemmas.Int.{ints, by_lt_z}
 use Rattle.std.proofs.Math.IntN.{*ℤ-zero, zero-*ℤ}
-use Rattle.std.specs.List.{AllByRecursion as Each}
+use Rattle.std.specs.List.{AllByRecursion as Each, Contains}
 use Rattle.nz_spec.specs.Vectors.{Vector, dot, plus, scaled, zero_vector, combination, HasWidth}
 use Rattle.nz_spec.specs.Sums.{IsInCone}
 use Rattle.nz_spec.proofs.SumLaws.{length-combination, IsInCone-plus, IsInCone-zero}
 use Rattle.nz_spec.proofs.IntLaws.{mul-nonneg}
+use Rattle.nz_spec.proofs.ListLaws.{Each-contains, contains_here, contains_there, contains_cases, contains_none}
 use Rattle.nz_linear.specs.Cones.{Satisfies}
-use Rattle.nz_linear.specs.Extreme.{VanishesWith, IsPointed, Splits, one_if_positive, positive_count, IsAmong}
+use Rattle.nz_linear.specs.Extreme.{VanishesWith, IsPointed, Splits, one_if_positive, positive_count}
 use Rattle.nz_linear.proofs.Ring.{sums, ring_z, neg-mul}
-use Rattle.nz_linear.proofs.Signs.{mul_pos, cancel_le, mul_is_zero, sign_cases, int_zero_or_not}
+use Rattle.nz_linear.proofs.Signs.{mul_pos, cancel_le, mul_is_zero, sign_cases}
 use Rattle.nz_linear.proofs.Lists.{each_map, each_map2, each_map3}
-use Rattle.nz_spec.proofs.VectorLaws.{dot-scaled, dot-zero}
+use Rattle.nz_spec.proofs.VectorLaws.{dot-scaled, dot-zero, int_is_zero}
 use Rattle.nz_linear.proofs.VectorLaws.{length-plus, length-scaled, dot-plus, same_values}
 use Rattle.nz_linear.proofs.Combinations.{combination-skip}
 use Rattle.nz_linear.proofs.Cones.{above_zero, cone_scaled, cone_divide}
@@ -34,19 +35,20 @@ one_of (pos zero) h = absurd (omega (arith, sums))
 one_of (pos (suc n)) h = refl
 one_of (negsuc n) h = absurd (omega (arith, sums))
 
-count_less : (rows : List Vector) (v x r : Vector) → Satisfies rows v → Satisfies rows x → VanishesWith rows v x → IsAmong r rows → dot r x ≡ pos 0 → pos 0 <ℤ dot r v → positive_count rows x < positive_count rows v
-count_less [] v x r sv sx z i e p = absurd i
-count_less (a ∷ rows) v x r sv sx z (inl same) e p =
-    let zero_at : dot a x ≡ pos 0 = ap (λ t. dot t x) (sym same) ∙ e in
-    let pos_at : pos 0 <ℤ dot a v = rw (← same) p in
-    omega (arith, ap one_if_positive zero_at, one_of (dot a v) pos_at, count_le rows v x sv.1 sx.1 z.1)
-count_less (a ∷ rows) v x r sv sx z (inr i) e p =
-    omega (arith, count_step (dot a x) (dot a v) sx.0 sv.0 z.0, count_less rows v x r sv.1 sx.1 z.1 i e p)
+count_less : (rows : List Vector) (v x r : Vector) → Satisfies rows v → Satisfies rows x → VanishesWith rows v x → Contains rows r → dot r x ≡ pos 0 → pos 0 <ℤ dot r v → positive_count rows x < positive_count rows v
+count_less [] v x r sv sx z i e p = absurd (contains_none r i)
+count_less (a ∷ rows) v x r sv sx z i e p = elim (contains_cases a rows r i) [
+  | inl same ↦ (
+      let zero_at : dot a x ≡ pos 0 = ap (λ t. dot t x) same ∙ e in
+      let pos_at : pos 0 <ℤ dot a v = rw same p in
+      omega (arith, ap one_if_positive zero_at, one_of (dot a v) pos_at, count_le rows v x sv.1 sx.1 z.1))
+  | inr k ↦ omega (arith, count_step (dot a x) (dot a v) sx.0 sv.0 z.0, count_less rows v x r sv.1 sx.1 z.1 k e p)
+]
 
 -- ---- the row with the greatest quotient of g by v
 record Greatest (g v : Vector) (rows : List Vector) : Type 0 where
   row : Vector
-  among : IsAmong row rows
+  among : Contains rows row
   up : pos 0 <ℤ dot row v
   best : Each (λ a. (dot a g *ℤ dot row v) ≤ℤ (dot row g *ℤ dot a v)) rows
 
@@ -65,17 +67,17 @@ none_here p q P Q e f = omega (arith, sums, ap (λ t. t *ℤ Q) f, ap (λ t. P *
 
 greatest : (g v : Vector) (rows : List Vector) → Satisfies rows v → VanishesWith rows v g → Each (λ a. dot a v ≡ pos 0) rows ⊎ Greatest g v rows
 greatest g v [] s z = inl tt
-greatest g v (a ∷ rows) s z = elim (int_zero_or_not (dot a v)) [
+greatest g v (a ∷ rows) s z = elim (int_is_zero (dot a v)) [
   | inl e ↦ elim (greatest g v rows s.1 z.1) [
     | inl all ↦ inl (e, all)
-    | inr b ↦ inr (record { row = b.row; among = inr b.among; up = b.up; best = (none_here (dot a g) (dot a v) (dot b.row g) (dot b.row v) e (z.0 e), b.best) })
+    | inr b ↦ inr (record { row = b.row; among = contains_there a b.row rows b.among; up = b.up; best = (none_here (dot a g) (dot a v) (dot b.row g) (dot b.row v) e (z.0 e), b.best) })
   ]
   | inr n ↦ (
       let up : pos 0 <ℤ dot a v = omega (arith, sums, s.0, n) in
       elim (greatest g v rows s.1 z.1) [
         | inl all ↦ inr (record {
           row = a;
-          among = inl refl;
+          among = contains_here a rows;
           up = up;
           best = (
             omega (arith, sums),
@@ -86,7 +88,7 @@ greatest g v (a ∷ rows) s z = elim (int_zero_or_not (dot a v)) [
         | inr b ↦ by_lt_z (dot b.row g *ℤ dot a v) (dot a g *ℤ dot b.row v)
             (λ (more : (dot b.row g *ℤ dot a v) <ℤ (dot a g *ℤ dot b.row v)). inr (record {
               row = a;
-              among = inl refl;
+              among = contains_here a rows;
               up = up;
               best = (
                 omega (arith, sums),
@@ -94,19 +96,14 @@ greatest g v (a ∷ rows) s z = elim (int_zero_or_not (dot a v)) [
                     (λ c k f. better (dot c g) (dot c v) (dot b.row g) (dot b.row v) (dot a g) (dot a v) k b.up (omega (arith, sums)) f (omega (arith, sums))) s.1 b.best,
               );
             }))
-            (λ (less : (dot a g *ℤ dot b.row v) ≤ℤ (dot b.row g *ℤ dot a v)). inr (record { row = b.row; among = inr b.among; up = b.up; best = (less, b.best) }))
+            (λ (less : (dot a g *ℤ dot b.row v) ≤ℤ (dot b.row g *ℤ dot a v)). inr (record { row = b.row; among = contains_there a b.row rows b.among; up = b.up; best = (less, b.best) }))
       ])
 ]
-
-among_value : (rows : List Vector) (P : Vector → Type 0) (r : Vector) → Each P rows → IsAmong r rows → P r
-among_value [] P r s i = absurd i
-among_value (a ∷ rows) P r s (inl e) = subst P (sym e) s.0
-among_value (a ∷ rows) P r s (inr i) = among_value rows P r s.1 i
 
 -- the vector v, moved away from g until one more row vanishes
 record Edge (w : ℕ) (rows : List Vector) (g v : Vector) : Type 0 where
   row : Vector
-  among : IsAmong row rows
+  among : Contains rows row
   up : pos 0 <ℤ dot row v
   point : Vector
   is : point ≡ plus (scaled (dot row g) v) (scaled (neg_ℤ (dot row v)) g)
@@ -190,8 +187,8 @@ split_in w rows v E pt lE lv sv s below =
                 (λ a. dot-plus w a _ _ (length-scaled w S p.point p.width) (length-scaled w Q q.point q.width) ∙ omega (arith, sums, dot-scaled a S p.point, dot-scaled a Q q.point, dot-scaled a c v, sum a)) in
                 cone_divide w E c v positive (subst (IsInCone w E) same both))
             | inr negative ↦ (
-                let x = among_value rows (λ a. pos 0 ≤ℤ dot a p.point) p.row p.inside p.among in
-                let y = among_value rows (λ a. pos 0 ≤ℤ dot a q.point) p.row q.inside p.among in
+                let x = Each-contains (λ a. pos 0 ≤ℤ dot a p.point) rows p.row p.inside p.among in
+                let y = Each-contains (λ a. pos 0 ≤ℤ dot a q.point) rows p.row q.inside p.among in
                 let n : pos 0 <ℤ (neg_ℤ c *ℤ Q) = mul_pos (neg_ℤ c) Q (omega (arith, sums)) p.up in
                 absurd (omega (arith, sums, sum p.row, mul-nonneg S (dot p.row p.point) pS x, mul-nonneg Q (dot p.row q.point) pQ y, n, neg-mul c Q)))
           ]
@@ -218,7 +215,7 @@ collect w rows E x (c ∷ cs) (g ∷ gs) lr lE n l s each z =
     let zrest : VanishesWith rows x (combination w cs gs) = each_map3 (λ a. dot a x ≡ pos 0 → dot a (plus (scaled c g) (combination w cs gs)) ≡ pos 0) (λ a. pos 0 ≤ℤ dot a g) (λ a. pos 0 ≤ℤ dot a (combination w cs gs)) (λ a. dot a x ≡ pos 0 → dot a (combination w cs gs) ≡ pos 0) rows
     (λ a f p q e. omega (arith, sums, value a, f e, mul-nonneg c (dot a g) n.0 p, q)) z s.0 rest in
     let tail = collect w rows E x cs gs lr lE n.1 l.1 s.1 each.1 zrest in
-    elim (int_zero_or_not c) [
+    elim (int_is_zero c) [
       | inl e ↦ subst (λ (k : ℤ). IsInCone w E (plus (scaled k g) (combination w cs gs))) (sym e) (subst (IsInCone w E) (sym (combination-skip w cs g gs l.0 l.1)) tail)
       | inr d ↦ (
           let up : pos 0 <ℤ c = omega (arith, sums, n.0, d) in

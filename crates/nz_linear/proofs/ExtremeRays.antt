@@ -8,9 +8,9 @@ use Rattle.nz_spec.proofs.IntLaws.{mul-nonneg}
 use Rattle.nz_linear.specs.Cones.{Satisfies, IsDoubleDescription, meet}
 use Rattle.nz_linear.specs.DoubleDescription.{HaveApartZeros, IsOnRay, IsExtremeByZeros, AreAdjacent}
 use Rattle.nz_linear.proofs.Ring.{zero_sum, cross_gone, sums, ring_z}
-use Rattle.nz_linear.proofs.Signs.{mul_pos, mul_is_zero, int_zero_or_not, sign_cases}
+use Rattle.nz_linear.proofs.Signs.{mul_pos, mul_is_zero, sign_cases}
 use Rattle.nz_linear.proofs.Lists.{each_map, each_map2, each_map3}
-use Rattle.nz_spec.proofs.VectorLaws.{IsZero-zero_vector, dot-scaled, plus_assoc, add-scaled}
+use Rattle.nz_spec.proofs.VectorLaws.{IsZero-zero_vector, dot-scaled, plus_assoc, add-scaled, int_is_zero}
 use Rattle.nz_linear.proofs.VectorLaws.{length-scaled, dot-plus, zero-scaled, zero-plus, plus_left_comm, scaled_is_zero, same_values}
 use Rattle.nz_linear.proofs.Cones.{above_zero}
 use Rattle.nz_linear.proofs.Combinations.{combination-skip}
@@ -71,7 +71,7 @@ between w rows p n (c ∷ cs) (g ∷ gs) lp ln lr k l s adj z =
     each_map3 (λ a. dot a p ≡ pos 0 → dot a n ≡ pos 0 → dot a (plus (scaled c g) (combination w cs gs)) ≡ pos 0) (λ a. pos 0 ≤ℤ dot a g) (λ a. pos 0 ≤ℤ dot a (combination w cs gs)) (λ a. dot a p ≡ pos 0 → dot a n ≡ pos 0 → dot a (combination w cs gs) ≡ pos 0) rows
     (λ a f x y e1 e2. omega (arith, sums, value a, f e1 e2, mul-nonneg c (dot a g) k.0 x, y)) z s.0 rest in
     let tail = between w rows p n cs gs lp ln lr k.1 l.1 s.1 adj.1 zrest in
-    elim (int_zero_or_not c) [
+    elim (int_is_zero c) [
       | inl e ↦ subst (λ (d : ℤ). IsBetween w p n (plus (scaled d g) (combination w cs gs))) (sym e) (subst (IsBetween w p n) (sym (combination-skip w cs g gs l.0 l.1)) tail)
       | inr d ↦ (
           let up : pos 0 <ℤ c = omega (arith, sums, k.0, d) in

@@ -7,6 +7,7 @@ use Rattle.nz_spec.specs.Order.{IsListOf}
 use Rattle.nz_spec.specs.Forms.{IsOtherColumn, IsSupportForm}
 use Rattle.nz_spec.proofs.VectorLaws.{zero_vector_of}
 use Rattle.nz_spec.proofs.ListLaws.{Each-contains, Each-from_contains}
+use Rattle.nz_spec.proofs.EquationLaws.{dot_comm, zero_outside_keys}
 use Rattle.nz_linear.specs.Cones.{Satisfies}
 use Rattle.nz_linear.specs.Extreme.{VanishesWith, IsPointed}
 use Rattle.nz_linear.specs.DoubleDescription.{IsExtremeByZeros}
@@ -15,9 +16,8 @@ use Rattle.nz_linear.specs.Echelon.{unit_at}
 use Rattle.nz_linear.specs.Facets.{IsValidForm, IsExtremeForm, facet_rows}
 use Rattle.nz_linear.proofs.Ring.{sums}
 use Rattle.nz_linear.proofs.Lists.{each_map}
-use Rattle.nz_linear.proofs.VectorLaws.{length-scaled, dot_comm, scaled-dot}
+use Rattle.nz_linear.proofs.VectorLaws.{length-scaled, scaled-dot}
 use Rattle.nz_linear.proofs.Units.{length-unit_at, unit_at-dot}
-use Rattle.nz_linear.proofs.NormalForms.{zero_form}
 use Rattle.nz_linear.proofs.RayList.{each_extreme_listed}
 use Rattle.nz_linear.proofs.SupportForms.{support_of_extreme, extreme_of_support, support_is_valid}
 
@@ -77,7 +77,7 @@ module _ (w : ℕ) (G : List Vector) (columns : List ℕ) (others : IsListOf ◌
   pub facet_rows_pointed : Each (HasWidth w) G → IsPointed w (facet_rows w columns G)
   facet_rows_pointed lG x l z =
       let r = rows_zero w columns G x l z in
-      zero_vector_of x (zero_form w G x l lG (each_map (λ g. dot g x ≡ pos 0) (λ g. dot x g ≡ pos 0) G (λ g e. dot_comm x g ∙ e) r.1) (λ j o. Each-contains (λ c. entry x c ≡ pos 0) columns j r.0 (others.each j o))) ∙ ap zero_vector l
+      zero_vector_of x (zero_outside_keys w G lG x l (each_map (λ g. dot g x ≡ pos 0) (λ g. dot x g ≡ pos 0) G (λ g e. dot_comm x g ∙ e) r.1) (λ j o. Each-contains (λ c. entry x c ≡ pos 0) columns j r.0 (others.each j o))) ∙ ap zero_vector l
 
   zeros_there : (f y : Vector) → VanishesWith G f y → Each (λ g. dot f g ≡ pos 0 → dot y g ≡ pos 0) G
   zeros_there f y v = each_map (λ g. dot g f ≡ pos 0 → dot g y ≡ pos 0) (λ g. dot f g ≡ pos 0 → dot y g ≡ pos 0) G (λ g h e. dot_comm y g ∙ h (dot_comm g f ∙ e)) v

@@ -8,11 +8,13 @@ use Rattle.nz_spec.specs.Sums.{IsInCone}
 use Rattle.nz_spec.proofs.SumLaws.{IsInCone-zero, length-zero_vector, IsInCone-plus}
 use Rattle.nz_spec.proofs.ConstraintLaws.{nonneg_on_cone}
 use Rattle.nz_spec.proofs.IntLaws.{mul-nonneg}
+use Rattle.nz_spec.proofs.EquationLaws.{dot_comm}
 use Rattle.nz_linear.specs.Cones.{Satisfies, IsDoubleDescription, meet, IsCut}
+use Rattle.nz_spec.proofs.ListLaws.{Each-contains, Each-from_contains}
 use Rattle.nz_linear.proofs.Ring.{cross_gone, sums, ring_z, one-mul, neg-mul}
 use Rattle.nz_linear.proofs.Lists.{each_map, each_map2, each_map3, each_map4, each_append, each_left, each_right, each_of_map, map_each}
 use Rattle.nz_spec.proofs.VectorLaws.{dot-scaled, zero-dot}
-use Rattle.nz_linear.proofs.VectorLaws.{cons_same, length-plus, length-scaled, dot_comm, dot-plus, plus-dot, scaled-dot, same_values}
+use Rattle.nz_linear.proofs.VectorLaws.{cons_same, length-plus, length-scaled, dot-plus, plus-dot, scaled-dot, same_values}
 use Rattle.nz_linear.proofs.Cones.{cone_skip, cone_head, cone_scaled, cone_divide, worst}
 
 -- ---- one row more
@@ -142,6 +144,7 @@ all_met w h Wanted (n ∷ ns) rays ln l s =
     let j = joined w Wanted _ _ (met w h Wanted n rays ln.0 l s.0) (all_met w h Wanted ns rays ln.1 l s.1) in
     record { rays = j.rays; widths = j.widths; wanted = j.wanted; gives = λ y ly k. let g = j.gives y ly k in (g.0, g.1) }
 
+-- a cut, each ray of which is as wanted
 pub record FullCut (w : ℕ) (h : Vector) (Wanted : Vector → Type 0) (rows rays : List Vector) : Type 0 where
   pub cut : List Vector
   pub is : IsCut w h rows rays cut
@@ -168,6 +171,7 @@ full_cut w h Wanted rows rays l s k m =
       wanted = each_map W Wanted j.rays (λ r x. x.1) j.wanted;
     }
 
+-- a cut
 pub record SomeCut (w : ℕ) (h : Vector) (rows rays : List Vector) : Type 0 where
   pub cut : List Vector
   pub is : IsCut w h rows rays cut
@@ -240,3 +244,12 @@ cone_satisfies w rows rays x d i =
 
     by : (fs : List Vector) → Each (λ a. Each (λ r. pos 0 ≤ℤ dot a r) rays) fs → Satisfies fs x
     by fs s = each_map (λ a. Each (λ r. pos 0 ≤ℤ dot a r) rays) (λ a. pos 0 ≤ℤ dot a x) fs (λ a k. nonneg_on_cone a w rays x d.ray_widths k i) s
+
+-- rows and rays change places
+pub swapped : (w : ℕ) (rows rays : List Vector) → IsDoubleDescription w rows rays → IsDoubleDescription w rays rows
+swapped w rows rays d = record {
+  row_widths = d.ray_widths;
+  ray_widths = d.row_widths;
+  sound = Each-from_contains (Satisfies rays) rows (λ a c. each_map (Satisfies rows) (λ r. pos 0 ≤ℤ dot r a) rays (λ r s. rw (dot_comm r a) (Each-contains (λ b. pos 0 ≤ℤ dot b r) rows a s c)) d.sound);
+  farkas = λ y ly s. generated w rows rays y d ly s;
+}

@@ -1,19 +1,24 @@
 -- What is left of a vector when the floors are taken away is in the box of a dual pair.
-use Rattle.std.proofs.Common.{◌≡◌, ℕ, List, [], ◌∷◌, length, map, ℤ, pos, ◌+ℤ◌, ◌*ℤ◌, ◌≤ℤ◌, ◌<ℤ◌, sym, ap, ◌∙◌, arith}
+use Rattle.std.proofs.Common.{◌≡◌, ℕ, List, [], ◌∷◌, length, map, ℤ, pos, negsuc, ◌+ℤ◌, ◌*ℤ◌, ◌≤ℤ◌, ◌<ℤ◌, sym, ap, ◌∙◌, subst, arith}
+use Rattle.std.proofs.lemmas.Int.{ints}
+use Rattle.std.proofs.lemmas.Slice.Zip.{AllZip-long}
 use Rattle.std.proofs.lemmas.List.{length-map}
 use Rattle.std.proofs.Math.IntN.{*ℤ_comm, *ℤ-zero}
-use Rattle.std.specs.List.{AllByRecursion as Each, AllZip}
-use Rattle.nz_spec.specs.Vectors.{Vector, dot, plus, minus, scaled, combination, HasWidth}
+use Rattle.std.specs.List.{AllByRecursion as Each, AllZip, Contains}
+use Rattle.nz_spec.specs.Vectors.{Vector, IsZero, zero_vector, dot, plus, minus, scaled, combination, HasWidth}
 use Rattle.nz_spec.specs.Boxes.{IsFloor}
-use Rattle.nz_spec.specs.Sums.{IsInBox}
+use Rattle.nz_spec.specs.Sums.{IsInBox, IsInSpan}
 use Rattle.nz_spec.proofs.IntLaws.{add-mul, mul-nonneg}
-use Rattle.nz_spec.proofs.VectorLaws.{dot-minus, dot-scaled}
-use Rattle.nz_spec.proofs.SumLaws.{length-combination}
+use Rattle.nz_spec.proofs.VectorLaws.{zero_vector_of, dot-minus, dot-scaled}
+use Rattle.nz_spec.proofs.SumLaws.{length-combination, combination-zeros}
+use Rattle.nz_spec.proofs.ListLaws.{Each-from_contains}
+use Rattle.nz_linear.proofs.Spans.{span_member, span_space}
+use Rattle.nz_linear.proofs.Cones.{above_zero}
 use Rattle.nz_linear.specs.DualPairs.{Pair, divisor, IsApart, HasWidths, IsDual, IsDualPair, IsSpace, IsCompleteOn, product, spread_factors}
 use Rattle.nz_linear.proofs.Ring.{sums, one-mul}
-use Rattle.nz_linear.proofs.Signs.{mul_lt}
-use Rattle.nz_linear.proofs.Lists.{each_map, zip_both, zip_left}
-use Rattle.nz_linear.proofs.VectorLaws.{length-scaled, dot-plus}
+use Rattle.nz_linear.proofs.Signs.{mul_lt, mul_is_zero}
+use Rattle.nz_linear.proofs.Lists.{zip_change, map_each, each_map, each_map2, zip_first, zip_both, zip_left}
+use Rattle.nz_linear.proofs.VectorLaws.{scaled_is_zero, cons_same, length-scaled, dot-plus, zero-scaled}
 use Rattle.nz_linear.proofs.DualPairs.{widths_of_vectors, vanishes_at_combination, product_positive, expansion, spread_is, length-factors}
 
 -- each form has at a sum of the vectors its own factor times its divisor
@@ -82,3 +87,50 @@ reduced_in_box w In ps x s d c i r = record {
   each = factors_in_box ps x d.dual r;
   same = sym (spread_is w ps x) ∙ sym (expansion w In ps x s d c i);
 }
+
+-- sums of the vectors are in the space
+combination_in : (w : ℕ) (In : Vector → Type 0) (qs : List ℤ) (ps : List Pair) (x : Vector) → IsSpace w In → In x → Each (λ (p : Pair). In p.vector) ps → In (combination w qs (map (λ (p : Pair). p.vector) ps))
+combination_in w In [] ps x s i v = subst In (zero-scaled w x (s.width x i)) (s.multiple_in (pos 0) x i)
+combination_in w In (q ∷ qs) [] x s i v = subst In (zero-scaled w x (s.width x i)) (s.multiple_in (pos 0) x i)
+combination_in w In (q ∷ qs) (p ∷ ps) x s i v = s.sum_in (scaled q p.vector) (combination w qs (map (λ (r : Pair). r.vector) ps)) (s.multiple_in q p.vector v.0) (combination_in w In qs ps x s i v.1)
+
+minus_is : (x y : Vector) → minus x y ≡ plus x (scaled (negsuc 0) y)
+minus_is [] y = λ i. []
+minus_is (a ∷ x) [] = λ i. []
+minus_is (a ∷ x) (b ∷ y) = cons_same (omega (arith, ints)) (minus_is x y)
+
+-- a vector less the vectors, taken as often as the floors say, is in the box
+pub floors_in_box : (w : ℕ) (In : Vector → Type 0) (ps : List Pair) (floors : List ℤ) (x : Vector) → IsSpace w In → IsDualPair w ps → IsCompleteOn w In ps → In x → AllZip (λ (p : Pair) q. IsFloor (divisor p) (dot p.form x) q) ps floors
+    → IsInBox w (map (λ p. p.vector) ps) (minus x (combination w floors (map (λ p. p.vector) ps)))
+floors_in_box w In ps floors x s d c i z =
+    let t = combination w floors (map (λ (p : Pair). p.vector) ps) in
+    let y_in : In (minus x t) = subst In (sym (minus_is x t)) (s.sum_in x (scaled (negsuc 0) t) i (s.multiple_in (negsuc 0) t (combination_in w In floors ps x s i c.vectors_in))) in
+    reduced_in_box w In ps (minus x t) s d c y_in (floor_rest w ps floors x (s.width x i) d (AllZip-long (λ (p : Pair) q. IsFloor (divisor p) (dot p.form x) q) ps floors z) z)
+
+-- ---- a dual pair is complete on the span of its vectors
+zero_factors : (ps : List Pair) (cs : List ℤ) → IsDual ps → AllZip (λ (p : Pair) c. c *ℤ divisor p ≡ pos 0) ps cs → IsZero cs
+zero_factors [] [] d z = tt
+zero_factors [] (c ∷ cs) d z = absurd z
+zero_factors (p ∷ ps) [] d z = absurd z
+zero_factors (p ∷ ps) (c ∷ cs) d z = (mul_is_zero (divisor p) c d.0 (*ℤ_comm (divisor p) c ∙ z.0), zero_factors ps cs d.2 z.1)
+
+pub complete_on_span : (w : ℕ) (ps : List Pair) → IsDualPair w ps → IsCompleteOn w (λ x. HasWidth w x × IsInSpan w (map (λ p. p.vector) ps) x) ps
+complete_on_span w ps d =
+    let vs = map (λ (p : Pair). p.vector) ps in
+    let lv = widths_of_vectors w ps d.widths in
+    record {
+      vectors_in = map_each (λ (p : Pair). p.vector) (λ v. HasWidth w v × IsInSpan w vs v) ps (each_map2 (HasWidth w) (Contains vs) (λ v. HasWidth w v × IsInSpan w vs v) vs (λ v l c. (l, span_member w vs v lv c)) lv (Each-from_contains (Contains vs) vs (λ v c. c)));
+      only_zero = λ x i v.
+          let j = i.1 in
+          let size : length j.factors ≡ length ps = j.one_each ∙ length-map ps (λ (p : Pair). p.vector) in
+          let same : AllZip (λ (p : Pair) c. c *ℤ divisor p ≡ pos 0) ps j.factors = zip_change (λ (p : Pair) c. (dot p.form (combination w j.factors vs) ≡ c *ℤ divisor p) × (dot p.form x ≡ pos 0)) (λ (p : Pair) c. c *ℤ divisor p ≡ pos 0) ps j.factors
+          (λ p c k. sym k.0 ∙ ap (dot p.form) j.same ∙ dot-scaled p.form j.multiple x ∙ ap (λ t. j.multiple *ℤ t) k.1 ∙ *ℤ-zero j.multiple)
+          (zip_first (λ (p : Pair) c. dot p.form (combination w j.factors vs) ≡ c *ℤ divisor p) (λ (p : Pair). dot p.form x ≡ pos 0) ps j.factors (values_at_combination w ps j.factors size d.widths d.dual) v) in
+          let none : j.factors ≡ zero_vector (length vs) = zero_vector_of j.factors (zero_factors ps j.factors d.dual same) ∙ ap zero_vector j.one_each in
+          scaled_is_zero w j.multiple x (above_zero j.multiple j.positive) i.0 (sym j.same ∙ ap (λ (cs : List ℤ). combination w cs vs) none ∙ combination-zeros w vs lv);
+    }
+
+pub floors_in_span_box : (w : ℕ) (ps : List Pair) (floors : List ℤ) (x : Vector) → IsDualPair w ps → HasWidth w x → IsInSpan w (map (λ p. p.vector) ps) x → AllZip (λ (p : Pair) q. IsFloor (divisor p) (dot p.form x) q) ps floors
+    → IsInBox w (map (λ p. p.vector) ps) (minus x (combination w floors (map (λ p. p.vector) ps)))
+floors_in_span_box w ps floors x d l i z =
+    floors_in_box w (λ y. HasWidth w y × IsInSpan w (map (λ (p : Pair). p.vector) ps) y) ps floors x (span_space w (map (λ (p : Pair). p.vector) ps) (widths_of_vectors w ps d.widths)) d (complete_on_span w ps d) (l, i) z

@@ -6,6 +6,7 @@ use Rattle.nz_spec.specs.Sums.{IsInGroup}
 use Rattle.nz_spec.proofs.SumLaws.{length-zero_vector, length-combination, combination-scaled, combination-zeros, IsInGroup-zero, IsInGroup-plus}
 use Rattle.nz_linear.specs.DualPairs.{IsSpace}
 use Rattle.nz_spec.proofs.VectorLaws.{one-scaled}
+use Rattle.nz_linear.proofs.Lists.{each_map}
 use Rattle.nz_linear.proofs.VectorLaws.{length-scaled, plus-zero}
 use Rattle.nz_linear.proofs.Combinations.{combination-skip}
 
@@ -41,3 +42,7 @@ group_within w gens others x l i k = subst (IsInGroup w others) k.same (sum_with
 
 pub group_space : (w : ℕ) (gens : List Vector) → Each (HasWidth w) gens → IsSpace w (IsInGroup w gens)
 group_space w gens a = record { width = λ x i. group_width w gens x a i; sum_in = λ x y i j. IsInGroup-plus w gens x y i j; multiple_in = λ k x i. group_scaled w gens k x i }
+
+-- a longer list, or the same in another order, has no smaller group
+pub group_of_members : (w : ℕ) (gens others : List Vector) (x : Vector) → Each (HasWidth w) others → Each (Contains others) gens → IsInGroup w gens x → IsInGroup w others x
+group_of_members w gens others x l c i = group_within w gens others x l (each_map (Contains others) (IsInGroup w others) gens (λ g k. group_member w others g l k) c) i

@@ -8,6 +8,7 @@ use Rattle.nz_spec.specs.Order.{IsListOf}
 use Rattle.nz_spec.specs.Forms.{IsKeyColumn, IsOtherColumn, IsEquationAt, AreEquations}
 use Rattle.nz_spec.proofs.VectorLaws.{dot-zero, dot-scaled}
 use Rattle.nz_spec.proofs.ListLaws.{Each-from_contains, contains_here, contains_there, contains_cases, contains_none}
+use Rattle.nz_spec.proofs.EquationLaws.{dot_comm, zero_on_span, column_cases, entry-scaled}
 use Rattle.nz_linear.specs.DualPairs.{Pair, pair_of, divisor, IsApart, HasWidths, IsDual, product, spread}
 use Rattle.nz_linear.specs.Division.{IsPrimitiveOf}
 use Rattle.nz_linear.specs.Elimination.{IsState, unit_pairs}
@@ -15,14 +16,12 @@ use Rattle.nz_linear.specs.Echelon.{unit_at, IsColumnPair, AreColumnPairs}
 use Rattle.nz_linear.proofs.Ring.{sums}
 use Rattle.nz_linear.proofs.Signs.{mul_is_zero, mul_is_pos}
 use Rattle.nz_linear.proofs.Lists.{map_each, each_map, each_map2, each_right, zip_both, zip_right, zip_left, zip_change, zip_meet}
-use Rattle.nz_linear.proofs.VectorLaws.{length-plus, length-scaled, dot-plus, dot_comm, scaled-dot}
-use Rattle.nz_linear.proofs.Units.{entry-scaled, length-unit_at, dot-unit_at, unit_at-dot, entry-unit_own, entry-unit_other, leads_at, value_at_end}
-use Rattle.nz_linear.proofs.NormalForms.{column_cases}
-use Rattle.nz_linear.proofs.DualPairs.{dual_right, length-spread, value_step, values_at_spread, product_positive}
+use Rattle.nz_linear.proofs.VectorLaws.{length-plus, length-scaled, dot-plus, scaled-dot}
+use Rattle.nz_linear.proofs.Units.{length-unit_at, dot-unit_at, unit_at-dot, entry-unit_own, entry-unit_other, leads_at, value_at_end}
+use Rattle.nz_linear.proofs.DualPairs.{dual_right, length-spread, value_step, values_at_spread, product_positive, divisors_positive}
 use Rattle.nz_linear.proofs.DualCone.{swap, swapped_widths, swapped_dual}
 use Rattle.nz_linear.proofs.EliminationRun.{start_state, find_pivot, turned, clear, found_step}
 use Rattle.nz_linear.proofs.Elimination.{skip_keeps, pivot_keeps}
-use Rattle.nz_linear.proofs.Spans.{zero_on_span}
 use Rattle.nz_linear.proofs.Rank.{in_seen_span}
 use Rattle.nz_linear.proofs.Echelon.{start_columns, split_columns, pivot_columns}
 
@@ -56,10 +55,6 @@ echelon w (h ∷ rows) l =
     ]
 
 -- ---- the columns left are no key columns
-divisors : (ps : List Pair) → IsDual ps → Each (λ p. pos 0 <ℤ divisor p) ps
-divisors [] d = tt
-divisors (p ∷ ps) d = (d.0, divisors ps d.2)
-
 -- what is known of a pair left, by its column
 pub record IsLeft (w : ℕ) (seen : List Vector) (c : ℕ) (p : Pair) : Type 0 where
   pub column : IsColumnPair w c p
@@ -72,7 +67,7 @@ all_left w seen columns chosen free s a =
     let wide : Each (HasWidths w) free = each_right (HasWidths w) chosen free s.pair.widths in
     let known : Each (λ p. HasWidths w p × (pos 0 <ℤ divisor p) × Each (λ r. dot r p.vector ≡ pos 0) seen) free =
     each_map2 (HasWidths w) (λ p. (pos 0 <ℤ divisor p) × Each (λ r. dot r p.vector ≡ pos 0) seen) (λ p. HasWidths w p × (pos 0 <ℤ divisor p) × Each (λ r. dot r p.vector ≡ pos 0) seen) free (λ p x y. (x, y.0, y.1)) wide
-    (each_map2 (λ (p : Pair). pos 0 <ℤ divisor p) (λ p. Each (λ r. dot r p.vector ≡ pos 0) seen) (λ p. (pos 0 <ℤ divisor p) × Each (λ r. dot r p.vector ≡ pos 0) seen) free (λ p x y. (x, y)) (divisors free (dual_right chosen free s.pair.dual)) s.free_vanish) in
+    (each_map2 (λ (p : Pair). pos 0 <ℤ divisor p) (λ p. Each (λ r. dot r p.vector ≡ pos 0) seen) (λ p. (pos 0 <ℤ divisor p) × Each (λ r. dot r p.vector ≡ pos 0) seen) free (λ p x y. (x, y)) (divisors_positive free (dual_right chosen free s.pair.dual)) s.free_vanish) in
     zip_change (λ c p. IsColumnPair w c p × (HasWidths w p × (pos 0 <ℤ divisor p) × Each (λ r. dot r p.vector ≡ pos 0) seen)) (IsLeft w seen) columns free
     (λ c p k. record { column = k.0; widths = k.1.0; positive = k.1.1; vanish = k.1.2 }) (zip_right (IsColumnPair w) (λ p. HasWidths w p × (pos 0 <ℤ divisor p) × Each (λ r. dot r p.vector ≡ pos 0) seen) columns free a.each known)
 
@@ -85,7 +80,7 @@ left_is_other w seen c p l k = record {
   within = k.column.within;
   not_key = λ (y : IsKeyColumn w seen c). value_at_end p.vector y.0 c
       (record { nonzero = λ e. let o = own_entry w seen c p k in omega (arith, sums); after = k.column.after }) y.2
-      (zero_on_span w p.vector seen y.0 l (each_map (λ r. dot r p.vector ≡ pos 0) (λ r. dot p.vector r ≡ pos 0) seen (λ r e. dot_comm p.vector r ∙ e) k.vanish) y.1);
+      (zero_on_span p.vector w seen y.0 l (each_map (λ r. dot r p.vector ≡ pos 0) (λ r. dot p.vector r ≡ pos 0) seen (λ r e. dot_comm p.vector r ∙ e) k.vanish) y.1);
 }
 
 -- ---- all others are key columns
@@ -141,10 +136,16 @@ key_of_missing w seen columns chosen free j l s a lj missing =
     earlier_cases k m [] [] h z = tt
     earlier_cases k m [] (p ∷ ps) h z = absurd z
     earlier_cases k m (c ∷ cs) [] h z = absurd z
-    earlier_cases k m (c ∷ cs) (p ∷ ps) h z = ((z.0, elim (column_cases k c) [
-      | inl e ↦ inl (dot-unit_at w j p.vector h.0.vector_width ∙ z.0.after j (omega arith))
-      | inr n ↦ inr n
-    ]), earlier_cases k m cs ps h.1 z.1)
+    earlier_cases k m (c ∷ cs) (p ∷ ps) h z = (
+      (
+        z.0,
+        elim (column_cases k c) [
+          | inl e ↦ inl (dot-unit_at w j p.vector h.0.vector_width ∙ z.0.after j (omega arith))
+          | inr n ↦ inr n
+        ],
+      ),
+      earlier_cases k m cs ps h.1 z.1,
+    )
 
 listed_or_not : (columns : List ℕ) (j : ℕ) → Contains columns j ⊎ ¬ Contains columns j
 listed_or_not [] j = inr (contains_none j)
@@ -199,8 +200,8 @@ others_vanish w (c ∷ columns) (p ∷ ps) l d z = (
       both cs qs h.1 i.1 all k.1,
     )
 
-primitive_entry : (w : ℕ) (b f : Vector) (j : ℕ) (i : IsPrimitiveOf b f) → HasWidth w f → i.factor *ℤ entry f j ≡ entry b j
-primitive_entry w b f j i l = sym (entry-scaled w i.factor f j l) ∙ ap (λ v. entry v j) i.same
+pub primitive_entry : (w : ℕ) (b f : Vector) (j : ℕ) (i : IsPrimitiveOf b f) → HasWidth w f → i.factor *ℤ entry f j ≡ entry b j
+primitive_entry w b f j i l = sym (entry-scaled i.factor f j) ∙ ap (λ v. entry v j) i.same
 
 pub left_equation : (w : ℕ) (seen : List Vector) (columns : List ℕ) (c : ℕ) (p : Pair) (f : Vector) → IsLeft w seen c p → ((j : ℕ) → IsOtherColumn w seen j → j ≢ c → entry p.vector j ≡ pos 0) → IsPrimitiveOf p.vector f → IsEquationAt w seen c f
 left_equation w seen columns c p f k z i =

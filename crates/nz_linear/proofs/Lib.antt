@@ -33,6 +33,13 @@ pub mod RayExistence
 pub mod SupportForms
 pub mod FacetRows
 pub mod DescribedCone
+pub mod Pointed
 pub mod NeededForms
 pub mod Floors
+pub mod DualForms
+pub mod Coordinates
+pub mod GroupCuts
+pub mod DualGroups
+pub mod SimplexCones
+pub mod SystemRays
 pub mod Recipes

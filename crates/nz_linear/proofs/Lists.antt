@@ -80,6 +80,13 @@ zip_right R P [] (y ∷ ys) z k = absurd z
 zip_right R P (x ∷ xs) [] z k = absurd z
 zip_right R P (x ∷ xs) (y ∷ ys) z k = ((z.0, k.0), zip_right R P xs ys z.1 k.1)
 
+-- what is known of each of the first list
+pub zip_first : {A B : Type 0} (R : A → B → Type 0) (P : A → Type 0) (xs : List A) (ys : List B) → AllZip R xs ys → Each P xs → AllZip (λ x y. R x y × P x) xs ys
+zip_first R P [] [] z k = tt
+zip_first R P [] (y ∷ ys) z k = absurd z
+zip_first R P (x ∷ xs) [] z k = absurd z
+zip_first R P (x ∷ xs) (y ∷ ys) z k = ((z.0, k.0), zip_first R P xs ys z.1 k.1)
+
 pub zip_left : {A B : Type 0} (R : A → B → Type 0) (P : A → Type 0) (xs : List A) (ys : List B) → ((x : A) (y : B) → R x y → P x) → AllZip R xs ys → Each P xs
 zip_left R P [] [] f z = tt
 zip_left R P [] (y ∷ ys) f z = absurd z

@@ -3,14 +3,13 @@ use Rattle.std.proofs.Common.{◌≡◌, [], ◌∷◌, ◌++◌, List, ℕ, ref
 use Rattle.std.proofs.lemmas.List.Elements.{Contains-append_left, Contains-append_right}
 use Rattle.std.specs.List.{AllByRecursion as Each, Contains}
 use Rattle.nz_spec.specs.Vectors.{Vector, dot}
-use Rattle.std.proofs.Common.{ℤ, pos, ◌+ℤ◌, ◌<ℤ◌, ◌≤ℤ◌, subst}
+use Rattle.std.proofs.Common.{ℤ, pos, ◌+ℤ◌, ◌<ℤ◌, ◌≤ℤ◌}
 use Rattle.std.proofs.lemmas.Int.{by_lt_z}
 use Rattle.nz_spec.proofs.ListLaws.{Each-contains}
 use Rattle.nz_linear.proofs.Ring.{sums}
-use Rattle.nz_linear.proofs.Elimination.{cleared_forms}
 use Rattle.nz_linear.specs.DualPairs.{Pair}
-use Rattle.nz_linear.specs.Elimination.{IsState, IsPivotStep}
-use Rattle.nz_linear.proofs.Lists.{each_map, each_append, each_remove}
+use Rattle.nz_linear.specs.Elimination.{IsState}
+use Rattle.nz_linear.proofs.Lists.{each_map, each_append}
 use Rattle.nz_linear.proofs.RayStart.{HaveSameMembers, each_of_members}
 
 -- the newest row at the head of the one list, at the end of the other
@@ -27,13 +26,6 @@ state_of_members w seen others chosen free m s = record {
   from_seen = each_map (λ (p : Pair). Contains seen p.form) (λ (p : Pair). Contains others p.form) chosen (λ p k. Each-contains (Contains others) seen p.form m.there k) s.from_seen;
   free_vanish = each_map (λ (p : Pair). Each (λ r. dot r p.vector ≡ pos 0) seen) (λ (p : Pair). Each (λ r. dot r p.vector ≡ pos 0) others) free (λ p k. each_of_members (λ r. dot r p.vector ≡ pos 0) seen others m.back k) s.free_vanish;
 }
-
--- a fact of the forms of the vectors left stays so: such as that they are unit forms
-pub pivot_free_forms : (w : ℕ) (h : Vector) (chosen free new_chosen new_free : List Pair) (P : Vector → Type 0) → IsPivotStep w h chosen free new_chosen new_free → Each (λ p. P p.form) free → Each (λ p. P p.form) new_free
-pivot_free_forms w h chosen free new_chosen new_free P t k =
-    let l : Each (λ (p : Pair). P p.form) (t.before ++ (t.pivot ∷ t.after)) = subst (Each (λ (p : Pair). P p.form)) t.split k in
-    let r = each_remove (λ (p : Pair). P p.form) t.pivot t.before t.after l in
-    cleared_forms w h t.u P (t.before ++ t.after) new_free t.clears_free r.1
 
 -- a number above all of a list
 pub larger_than_all : (xs : List ℤ) → (n : ℤ) × Each (λ x. x <ℤ n) xs

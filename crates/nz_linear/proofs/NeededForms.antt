@@ -1,15 +1,15 @@
 -- Each support form is needed: some vector meets all the others and the equations, and not it.
-use Rattle.std.proofs.Common.{◌≡◌, inl, inr, ℕ, List, [], ◌∷◌, pos, negsuc, ◌+ℤ◌, ◌*ℤ◌, ◌≤ℤ◌, ap, ap₂, ◌∙◌, arith}
+use Rattle.std.proofs.Common.{[], ◌∷◌, ◌≡◌, inl, inr, ℕ, List, pos, negsuc, ◌+ℤ◌, ◌*ℤ◌, ◌≤ℤ◌, ap, ap₂, ◌∙◌, arith}
 use Rattle.std.proofs.lemmas.Int.{ints}
 use Rattle.std.proofs.Math.IntN.{*ℤ-zero}
 use Rattle.std.specs.List.{AllByRecursion as Each, Contains}
-use Rattle.nz_spec.specs.Vectors.{Vector, dot, plus, scaled, zero_vector, HasWidth}
+use Rattle.nz_spec.specs.Vectors.{zero_vector, Vector, dot, plus, scaled, HasWidth}
 use Rattle.nz_spec.specs.Forms.{IsEquationAt, AreEquations, IsSupportForm, AreSupportForms, IsNeeded}
-use Rattle.nz_spec.proofs.VectorLaws.{dot-scaled, dot-zero}
 use Rattle.nz_spec.proofs.SumLaws.{length-zero_vector}
+use Rattle.nz_spec.proofs.VectorLaws.{dot-zero, dot-scaled, int_is_zero}
 use Rattle.nz_spec.proofs.ListLaws.{Each-contains}
 use Rattle.nz_linear.proofs.Ring.{sums, mul-one, zero_sum}
-use Rattle.nz_linear.proofs.Signs.{mul_le, int_zero_or_not}
+use Rattle.nz_linear.proofs.Signs.{mul_le}
 use Rattle.nz_linear.proofs.Lists.{each_map, zip_to_right}
 use Rattle.nz_linear.proofs.VectorLaws.{length-plus, length-scaled, dot-plus}
 use Rattle.nz_linear.proofs.ExtremeRays.{same_on_ray}
@@ -78,7 +78,7 @@ support_needed w G support equations f lG are eq has = elim (zero_or_positive f 
               let on_facet : Each (λ u. pos 0 ≤ℤ dot h u) vs = each_map (Contains G) (λ u. pos 0 ≤ℤ dot h u) vs (λ u c. Each-contains (λ u. pos 0 ≤ℤ dot h u) G u sh.at_least c) sf.facet.of_list in
               let up = total_nonneg w h vs lv on_facet in
               let small = Each-contains (λ a. dot a g ≤ℤ N) support h n.2 k in
-              elim (int_zero_or_not (dot h v)) [
+              elim (int_is_zero (dot h v)) [
                 | inl z ↦ absurd (ne (same_on_ray w h f sh.width sf.width sh.primitive sf.primitive (on_ray_by_facet w G f h lG sf (support_is_valid w G h sh) (zero_of_total w h vs lv on_facet z))))
                 | inr d ↦ (let one : pos 1 ≤ℤ dot h v = omega (arith, sums) in let m = mul_le N (pos 1) (dot h v) (let q = n.1 in omega (arith, sums)) one in omega (arith, ints, value h, m, mul-one N, small))
               ];

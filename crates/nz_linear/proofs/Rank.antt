@@ -6,6 +6,8 @@ use Rattle.nz_spec.specs.Vectors.{Vector, dot, scaled, combination, HasWidth}
 use Rattle.nz_spec.specs.Sums.{IsInSpan, IsIndependent, HasRank}
 use Rattle.nz_spec.proofs.ListLaws.{Each-contains, Each-from_contains}
 use Rattle.nz_spec.proofs.LinearLaws.{HasRank-unique, independent_at_most}
+use Rattle.nz_spec.proofs.EquationLaws.{dot_comm, zero_on_span}
+use Rattle.nz_spec.proofs.ConstraintLaws.{values_zero}
 use Rattle.nz_linear.specs.DualPairs.{Pair, HasWidths, IsDualPair, IsDual, IsSpace, IsCompleteOn, product, spread, spread_factors}
 use Rattle.nz_linear.specs.Elimination.{IsState}
 use Rattle.nz_linear.proofs.Ring.{sums}
@@ -18,11 +20,11 @@ use Rattle.nz_spec.proofs.IntLaws.{zero_product}
 use Rattle.nz_spec.proofs.VectorLaws.{dot-scaled, dot-IsZero}
 use Rattle.nz_spec.proofs.SumLaws.{length-combination, dot-combination}
 use Rattle.std.proofs.Math.IntN.{*ℤ_comm}
-use Rattle.nz_linear.proofs.VectorLaws.{length-scaled, dot-plus, dot_comm, zero-scaled, zero-plus}
+use Rattle.nz_linear.proofs.VectorLaws.{length-scaled, dot-plus, zero-scaled, zero-plus}
 use Rattle.nz_linear.proofs.Lists.{each_remove}
 use Rattle.nz_linear.proofs.Dependence.{complete_length}
 use Rattle.nz_linear.proofs.EliminationRun.{run, find_pivot, FoundPivot}
-use Rattle.nz_linear.proofs.Spans.{in_span, span_member, span_within, zero_on_span, zero_values}
+use Rattle.nz_linear.proofs.Spans.{in_span, span_member, span_within}
 
 -- the spread of the pairs is in the span of their vectors
 spread_in_span : (w : ℕ) (ps : List Pair) (x y : Vector) → IsDual ps → scaled (product ps) x ≡ spread w ps y → IsInSpan w (map (λ p. p.vector) ps) x
@@ -87,7 +89,7 @@ in_seen_span w seen chosen free x l lx s z =
 
 pub seen_span_vanishes : (w : ℕ) (seen : List Vector) (chosen free : List Pair) (x : Vector) → Each (HasWidth w) seen → IsState w seen chosen free → IsInSpan w seen x → Each (λ p. dot x p.vector ≡ pos 0) free
 seen_span_vanishes w seen chosen free x l s i = each_map (λ (p : Pair). Each (λ r. dot r p.vector ≡ pos 0) seen) (λ (p : Pair). dot x p.vector ≡ pos 0) free
-    (λ p k. dot_comm x p.vector ∙ zero_on_span w p.vector seen x l (each_map (λ r. dot r p.vector ≡ pos 0) (λ r. dot p.vector r ≡ pos 0) seen (λ r e. dot_comm p.vector r ∙ e) k) i) s.free_vanish
+    (λ p k. dot_comm x p.vector ∙ zero_on_span p.vector w seen x l (each_map (λ r. dot r p.vector ≡ pos 0) (λ r. dot p.vector r ≡ pos 0) seen (λ r e. dot_comm p.vector r ∙ e) k) i) s.free_vanish
 
 -- ---- independent vectors
 -- a vector at which a form is not 0 that is 0 at the others is independent of them
@@ -95,7 +97,7 @@ pub independent_more : (w : ℕ) (f v : Vector) (vs : List Vector) → HasWidth 
 independent_more w f v vs lv l n z free [] e i = absurd (omega arith)
 independent_more w f v vs lv l n z free (c ∷ cs) e i =
     let rest = combination w cs vs in
-    let value : dot f (plus (scaled c v) rest) ≡ c *ℤ dot f v +ℤ pos 0 = dot-plus w f (scaled c v) rest (length-scaled w c v lv) (length-combination w cs vs l) ∙ ap₂ ◌+ℤ◌ (dot-scaled f c v) (dot-combination f w cs vs l ∙ zero_values f cs vs z) in
+    let value : dot f (plus (scaled c v) rest) ≡ c *ℤ dot f v +ℤ pos 0 = dot-plus w f (scaled c v) rest (length-scaled w c v lv) (length-combination w cs vs l) ∙ ap₂ ◌+ℤ◌ (dot-scaled f c v) (dot-combination f w cs vs l ∙ values_zero f cs vs z) in
     let product : dot f v *ℤ c ≡ pos 0 = omega (arith, sums, value, dot-IsZero f (plus (scaled c v) rest) i, *ℤ_comm c (dot f v)) in
     let none : c ≡ pos 0 = zero_product (dot f v) c n product in
     let same : plus (scaled c v) rest ≡ rest = ap (λ (t : ℤ). plus (scaled t v) rest) none ∙ ap (λ t. plus t rest) (zero-scaled w v lv) ∙ zero-plus w rest (length-combination w cs vs l) in

@@ -1,20 +1,21 @@
 -- Each pointed cone of rows has its list of extreme rays.
-use Rattle.std.proofs.Common.{◌≡◌, ◌≢◌, ◌⊎◌, inl, inr, ℕ, suc, List, [], ◌∷◌, length, ℤ, pos, ◌+ℤ◌, ◌-ℤ◌, ◌≤ℤ◌, ◌<ℤ◌, refl, sym, ap, ◌∙◌, subst, arith}
+use Rattle.std.proofs.Common.{◌≡◌, ◌≢◌, ◌⊎◌, inl, inr, ℕ, List, [], ◌∷◌, ℤ, pos, ◌+ℤ◌, ◌≤ℤ◌, ◌<ℤ◌, sym, ap, ◌∙◌, subst, arith}
 use Rattle.std.specs.List.{AllByRecursion as Each, Contains}
-use Rattle.nz_spec.specs.Vectors.{Vector, dot, scaled, zero_vector, combination, HasWidth, IsPrimitive}
+use Rattle.nz_spec.specs.Vectors.{plus, Vector, dot, scaled, zero_vector, combination, HasWidth, IsPrimitive}
 use Rattle.nz_spec.specs.Sums.{IsInCone}
-use Rattle.nz_spec.proofs.VectorLaws.{zero_or_not, zero_vector_of, add-scaled}
+use Rattle.nz_spec.proofs.VectorLaws.{zero_or_not, zero_vector_of, add-scaled, int_is_zero}
 use Rattle.nz_spec.proofs.SumLaws.{IsInCone-zero}
 use Rattle.nz_spec.proofs.ListLaws.{Each-contains, contains_here, contains_there}
 use Rattle.nz_spec.proofs.ConstraintLaws.{nonneg_on_cone}
+use Rattle.nz_spec.proofs.EquationLaws.{dot_comm}
+use Rattle.nz_spec.proofs.UniqueLaws.{same_or_not}
 use Rattle.nz_linear.specs.Cones.{Satisfies}
 use Rattle.nz_linear.specs.Extreme.{VanishesWith, IsPointed, Splits}
-use Rattle.nz_linear.specs.DoubleDescription.{IsExtremeByZeros, AreAdjacent}
+use Rattle.nz_linear.specs.DoubleDescription.{IsOnRay, IsExtremeByZeros, AreAdjacent}
 use Rattle.nz_linear.specs.RayStep.{AreExtremeRays}
 use Rattle.nz_linear.proofs.Ring.{sums}
-use Rattle.nz_linear.proofs.Signs.{sign_cases, int_zero_or_not}
+use Rattle.nz_linear.proofs.Signs.{sign_cases}
 use Rattle.nz_linear.proofs.Lists.{each_map, each_map2, each_map3}
-use Rattle.nz_linear.proofs.VectorLaws.{dot_comm, cons_same}
 use Rattle.nz_linear.proofs.Cones.{above_zero, cone_skip, cone_head, cone_scaled}
 use Rattle.nz_linear.proofs.ConeMembers.{cone_within}
 use Rattle.nz_linear.proofs.Division.{primitive_of, primitive_nonzero, primitive_unique}
@@ -62,33 +63,15 @@ primitives w rows (r ∷ rays) l s =
 vanishes_or_not : (rows : List Vector) (x y : Vector) → VanishesWith rows x y ⊎ ¬ VanishesWith rows x y
 vanishes_or_not [] x y = inl tt
 vanishes_or_not (a ∷ rows) x y = elim (vanishes_or_not rows x y) [
-  | inl v ↦ elim (int_zero_or_not (dot a y)) [
+  | inl v ↦ elim (int_is_zero (dot a y)) [
     | inl e ↦ inl (λ z. e, v)
-    | inr n ↦ elim (int_zero_or_not (dot a x)) [
+    | inr n ↦ elim (int_is_zero (dot a x)) [
       | inl z ↦ inr (λ (h : VanishesWith (a ∷ rows) x y). n (h.0 z))
       | inr m ↦ inl (λ z. absurd (m z), v)
     ]
   ]
   | inr n ↦ inr (λ (h : VanishesWith (a ∷ rows) x y). n h.1)
 ]
-
-pub same_or_not : (x y : Vector) → (x ≡ y) ⊎ (x ≢ y)
-same_or_not [] [] = inl refl
-same_or_not [] (b ∷ y) = inr (λ e. let h : 0 ≡ suc (length y) = ap length e in omega arith)
-same_or_not (a ∷ x) [] = inr (λ e. let h : suc (length x) ≡ 0 = ap length e in omega arith)
-same_or_not (a ∷ x) (b ∷ y) = elim (int_zero_or_not (a -ℤ b)) [
-  | inl z ↦ elim (same_or_not x y) [
-    | inl e ↦ inl (cons_same (omega (arith, sums)) e)
-    | inr n ↦ inr (λ e. n (cons_rest e))
-  ]
-  | inr n ↦ inr (λ e. n (let h : a ≡ b = cons_first e in omega (arith, sums)))
-]
-  where
-    cons_first : (a ∷ x) ≡ (b ∷ y) → a ≡ b
-    cons_first e = cc
-
-    cons_rest : (a ∷ x) ≡ (b ∷ y) → x ≡ y
-    cons_rest e = cc
 
 -- different primitive vectors of a pointed cone are no multiples of each other
 not_along : (w : ℕ) (rows : List Vector) (g r : Vector) → IsPointed w rows → HasWidth w g → HasWidth w r → Satisfies rows g → Satisfies rows r → IsPrimitive g → IsPrimitive r → r ≢ g → (m k : ℤ) → pos 0 <ℤ m → ¬ (scaled m r ≡ scaled k g)
@@ -107,18 +90,21 @@ record SomeOther (rows : List Vector) (g : Vector) (list : List Vector) : Type 0
   vanishes : VanishesWith rows g other
   differs : other ≢ g
 
-other_or_none : (rows : List Vector) (g : Vector) (list : List Vector) → Each (λ r. VanishesWith rows g r → r ≡ g) list ⊎ SomeOther rows g list
-other_or_none rows g [] = inl tt
-other_or_none rows g (r ∷ list) = elim (other_or_none rows g list) [
+other_or_none : (w : ℕ) (rows : List Vector) (g : Vector) (list : List Vector) → HasWidth w g → Each (HasWidth w) list → Each (λ r. VanishesWith rows g r → r ≡ g) list ⊎ SomeOther rows g list
+other_or_none w rows g [] lg l = inl tt
+other_or_none w rows g (r ∷ list) lg l = elim (other_or_none w rows g list lg l.1) [
   | inr s ↦ inr (record { other = s.other; has = contains_there r s.other list s.has; vanishes = s.vanishes; differs = s.differs })
   | inl all ↦ elim (vanishes_or_not rows g r) [
     | inr n ↦ inl (λ v. absurd (n v), all)
-    | inl v ↦ elim (same_or_not r g) [
+    | inl v ↦ elim (same_or_not r g (l.0 ∙ sym lg)) [
       | inl e ↦ inl (λ u. e, all)
       | inr n ↦ inr (record { other = r; has = contains_here r list; vanishes = v; differs = n })
     ]
   ]
 ]
+
+ray_of_sum : (y g c : Vector) (m j k : ℤ) → pos 0 <ℤ m → pos 0 ≤ℤ j → pos 0 ≤ℤ k → c ≡ scaled m y → c ≡ plus (scaled j g) (scaled k g) → IsOnRay g y
+ray_of_sum y g c m j k p nj nk e f = record { multiple = m; positive = p; factor = j +ℤ k; nonneg = omega (arith, sums); same = sym e ∙ f ∙ sym (add-scaled j k g) }
 
 -- a vector at whose zeros no other of a list that generates vanishes is extreme
 extreme_of_alone : (w : ℕ) (rows list : List Vector) (g : Vector) → Each (HasWidth w) rows → HasWidth w g → Each (HasWidth w) list → Each (Satisfies rows) list → ((x : Vector) → HasWidth w x → Satisfies rows x → IsInCone w list x)
@@ -131,17 +117,11 @@ extreme_of_alone w rows list g lr lg l s gen alone y ly sy v =
     let zc : Each (λ a. dot a g ≡ pos 0 → dot a g ≡ pos 0 → dot a c ≡ pos 0) rows = each_map2 (λ a. dot a g ≡ pos 0 → dot a y ≡ pos 0) (λ a. dot a y ≡ pos 0 → dot a c ≡ pos 0) (λ a. dot a g ≡ pos 0 → dot a g ≡ pos 0 → dot a c ≡ pos 0) rows
     (λ a f h e u. h (f e)) v (vanishes_multiple rows i.multiple y c (sym i.same) sy) in
     let b = between w rows g g i.factors list lg lg lr i.each l s adjacent zc in
-    record {
-      multiple = i.multiple;
-      positive = above_zero i.multiple i.positive;
-      factor = b.at_p +ℤ b.at_n;
-      nonneg = (let p = b.nonneg_p in let n = b.nonneg_n in omega (arith, sums));
-      same = sym i.same ∙ b.same ∙ sym (add-scaled b.at_p b.at_n g);
-    }
+    ray_of_sum y g c i.multiple b.at_p b.at_n (above_zero i.multiple i.positive) b.nonneg_p b.nonneg_n i.same b.same
 
 extreme_or_split : (w : ℕ) (rows list : List Vector) (g : Vector) → IsPointed w rows → Each (HasWidth w) rows → Each (HasWidth w) list → Each (Satisfies rows) list → Each IsPrimitive list → ((x : Vector) → HasWidth w x → Satisfies rows x → IsInCone w list x)
     → HasWidth w g → Satisfies rows g → IsPrimitive g → IsExtremeByZeros w rows g ⊎ Splits w rows g
-extreme_or_split w rows list g pt lr l s p gen lg sg pg = elim (other_or_none rows g list) [
+extreme_or_split w rows list g pt lr l s p gen lg sg pg = elim (other_or_none w rows g list lg l) [
   | inl alone ↦ inl (extreme_of_alone w rows list g lr lg l s gen alone)
   | inr o ↦ inr (
       let lo = Each-contains (HasWidth w) list o.other l o.has in
@@ -179,6 +159,7 @@ choose w rows (g ∷ list) l s p d =
       | inr z ↦ record { extreme = t.extreme; widths = t.widths; sound = t.sound; primitive = t.primitive; are_extreme = t.are_extreme; each = (inr z, t.each) }
     ]
 
+-- a list of the extreme rays
 pub record SomeExtremeRays (w : ℕ) (rows : List Vector) : Type 0 where
   pub rays : List Vector
   pub are : AreExtremeRays w rows rays

@@ -11,9 +11,9 @@ use Rattle.nz_linear.specs.Extreme.{VanishesWith}
 use Rattle.nz_linear.specs.DoubleDescription.{IsExtremeByZeros}
 use Rattle.nz_linear.specs.RayStep.{AreExtremeRays}
 use Rattle.nz_linear.proofs.Ring.{sums}
-use Rattle.nz_linear.proofs.Signs.{mul_is_zero, int_zero_or_not}
+use Rattle.nz_linear.proofs.Signs.{mul_is_zero}
 use Rattle.nz_linear.proofs.Lists.{each_map3}
-use Rattle.nz_spec.proofs.VectorLaws.{IsZero-zero_vector, dot-scaled}
+use Rattle.nz_spec.proofs.VectorLaws.{IsZero-zero_vector, dot-scaled, int_is_zero}
 use Rattle.nz_linear.proofs.VectorLaws.{length-scaled, dot-plus, scaled_is_zero}
 use Rattle.nz_linear.proofs.Cones.{above_zero}
 use Rattle.nz_linear.proofs.Division.{primitive_nonzero}
@@ -37,7 +37,7 @@ term_of w rows x (c ∷ cs) (g ∷ gs) lr k l s z =
     let rest = combination_inside w rows cs gs k.1 l.1 s.1 lr in
     let value : (a : Vector) → dot a (plus (scaled c g) (combination w cs gs)) ≡ c *ℤ dot a g +ℤ dot a (combination w cs gs) = λ a.
     dot-plus w a (scaled c g) (combination w cs gs) (length-scaled w c g l.0) (length-combination w cs gs l.1) ∙ ap (λ t. t +ℤ dot a (combination w cs gs)) (dot-scaled a c g) in
-    elim (int_zero_or_not c) [
+    elim (int_is_zero c) [
       | inl e ↦ (
           let zrest : VanishesWith rows x (combination w cs gs) = each_map3 (λ a. dot a x ≡ pos 0 → dot a (plus (scaled c g) (combination w cs gs)) ≡ pos 0) (λ a. pos 0 ≤ℤ dot a g) (λ a. pos 0 ≤ℤ dot a (combination w cs gs)) (λ a. dot a x ≡ pos 0 → dot a (combination w cs gs) ≡ pos 0) rows
           (λ a f p q n. omega (arith, sums, value a, f n, mul-nonneg c (dot a g) k.0 p, q)) z s.0 rest in

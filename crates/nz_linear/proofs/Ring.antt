@@ -37,3 +37,6 @@ cross_gone a b = simp ring_z (omega (arith, sums))
 
 pub zero_sum : (c d x y : ℤ) → x ≡ pos 0 → y ≡ pos 0 → c *ℤ x +ℤ d *ℤ y ≡ pos 0
 zero_sum c d x y e f = omega (arith, sums, ap (λ t. c *ℤ t) e, ap (λ t. d *ℤ t) f, *ℤ-zero c, *ℤ-zero d)
+
+pub both_zero : (a x b y : ℤ) → x ≡ pos 0 → y ≡ pos 0 → a *ℤ x ≡ b *ℤ y
+both_zero a x b y e h = ap (λ t. a *ℤ t) e ∙ *ℤ-zero a ∙ sym (ap (λ t. b *ℤ t) h ∙ *ℤ-zero b)

@@ -11,11 +11,6 @@ sign_cases (pos zero) = inl refl
 sign_cases (pos (suc n)) = inr (inl (omega (arith, sums)))
 sign_cases (negsuc n) = inr (inr (omega (arith, sums)))
 
-pub int_zero_or_not : (a : ℤ) → (a ≡ pos 0) ⊎ (a ≢ pos 0)
-int_zero_or_not (pos zero) = inl refl
-int_zero_or_not (pos (suc n)) = inr (λ e. omega (arith, sums))
-int_zero_or_not (negsuc n) = inr (λ e. omega (arith, sums))
-
 pub mul_pos : (a b : ℤ) → pos 0 <ℤ a → pos 0 <ℤ b → pos 0 <ℤ (a *ℤ b)
 mul_pos (pos zero) b h k = absurd (omega (arith, sums))
 mul_pos (pos (suc m)) (pos zero) h k = absurd (omega (arith, sums))

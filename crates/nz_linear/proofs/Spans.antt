@@ -1,17 +1,17 @@
 -- The span of a list: closure under sums and multiples, and that it goes by the members of the list alone.
-use Rattle.std.proofs.Common.{◌≡◌, ◌≢◌, ℕ, List, [], ◌∷◌, length, map, ℤ, pos, ◌*ℤ◌, ◌<ℤ◌, refl, sym, ap, ap₂, ◌∙◌, subst, arith}
-use Rattle.std.proofs.Math.IntN.{*ℤ_comm, *ℤ-zero}
+use Rattle.std.proofs.Common.{◌≡◌, ◌≢◌, ℕ, List, [], ◌∷◌, length, ℤ, pos, ◌*ℤ◌, ◌<ℤ◌, sym, ap, ap₂, ◌∙◌, subst, arith}
+use Rattle.std.proofs.Math.IntN.{*ℤ_comm}
 use Rattle.std.specs.Prelude.{⊤}
 use Rattle.std.specs.List.{AllByRecursion as Each, Contains}
-use Rattle.nz_spec.specs.Vectors.{Vector, dot, plus, scaled, zero_vector, combination, HasWidth}
+use Rattle.nz_spec.specs.Vectors.{Vector, plus, scaled, zero_vector, combination, HasWidth}
 use Rattle.nz_spec.specs.Sums.{IsInSpan}
 use Rattle.nz_spec.proofs.IntLaws.{mul-pos}
-use Rattle.nz_spec.proofs.VectorLaws.{dot-scaled, scaled-plus, scaled-scaled}
-use Rattle.nz_spec.proofs.SumLaws.{dot-combination, combination-plus, combination-scaled, IsInCone-zero, IsInSpan-cone}
+use Rattle.nz_spec.proofs.VectorLaws.{scaled-plus, scaled-scaled}
+use Rattle.nz_spec.proofs.SumLaws.{combination-plus, combination-scaled, IsInCone-zero, IsInSpan-cone}
 use Rattle.nz_linear.specs.DualPairs.{IsSpace}
 use Rattle.nz_linear.proofs.Ring.{sums}
 use Rattle.nz_linear.proofs.Signs.{signed, mul_is_zero}
-use Rattle.nz_linear.proofs.Lists.{each_all}
+use Rattle.nz_linear.proofs.Lists.{each_all, each_map}
 use Rattle.nz_linear.proofs.VectorLaws.{length-plus, length-scaled}
 use Rattle.nz_linear.proofs.Cones.{above_zero}
 use Rattle.nz_linear.proofs.ConeMembers.{cone_member}
@@ -63,16 +63,9 @@ pub span_within : (w : ℕ) (vs others : List Vector) (x : Vector) → Each (Has
 span_within w vs others x l i k =
     span_divide w others k.multiple x (λ e. let p = k.positive in omega (arith, sums)) (subst (IsInSpan w others) k.same (sum_within w vs others k.factors l i))
 
-pub zero_values : (f : Vector) (cs : List ℤ) (vs : List Vector) → Each (λ v. dot f v ≡ pos 0) vs → dot cs (map (λ v. dot f v) vs) ≡ pos 0
-zero_values f [] vs z = refl
-zero_values f (c ∷ cs) [] z = refl
-zero_values f (c ∷ cs) (v ∷ vs) z = omega (arith, sums, ap (λ t. c *ℤ t) z.0, *ℤ-zero c, zero_values f cs vs z.1)
-
--- a form that is 0 on the list is 0 on the span
-pub zero_on_span : (w : ℕ) (f : Vector) (vs : List Vector) (x : Vector) → Each (HasWidth w) vs → Each (λ v. dot f v ≡ pos 0) vs → IsInSpan w vs x → dot f x ≡ pos 0
-zero_on_span w f vs x l z i =
-    mul_is_zero i.multiple (dot f x) (above_zero i.multiple i.positive)
-    (sym (dot-scaled f i.multiple x) ∙ ap (dot f) (sym i.same) ∙ dot-combination f w i.factors vs l ∙ zero_values f i.factors vs z)
+-- a longer list, or the same in another order, has no smaller span
+pub span_of_members : (w : ℕ) (vs others : List Vector) (x : Vector) → Each (HasWidth w) others → Each (Contains others) vs → IsInSpan w vs x → IsInSpan w others x
+span_of_members w vs others x l c i = span_within w vs others x l (each_map (Contains others) (IsInSpan w others) vs (λ v k. span_member w others v l k) c) i
 
 -- what is in the span of vectors of width w has width w only where they have; the span as a set
 pub span_space : (w : ℕ) (vs : List Vector) → Each (HasWidth w) vs → IsSpace w (λ x. HasWidth w x × IsInSpan w vs x)

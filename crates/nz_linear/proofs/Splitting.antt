@@ -1,27 +1,26 @@
 -- Extreme by the rows at which a vector vanishes, and extreme by how its multiples split: they are the same, and in a pointed cone a primitive extreme ray is an extreme generator.
-use Rattle.std.proofs.Common.{◌≡◌, inl, inr, ℕ, List, ◌∷◌, length, map, ℤ, pos, negsuc, ◌+ℤ◌, ◌-ℤ◌, ◌*ℤ◌, neg_ℤ, ◌≤ℤ◌, ◌<ℤ◌, refl, sym, ap, ap₂, ◌∙◌, subst, arith}
+use Rattle.std.proofs.Common.{Contains, ◌≡◌, inl, inr, ℕ, List, ◌∷◌, length, map, ℤ, pos, negsuc, ◌+ℤ◌, ◌-ℤ◌, ◌*ℤ◌, neg_ℤ, ◌≤ℤ◌, ◌<ℤ◌, refl, sym, ap, ap₂, ◌∙◌, subst, arith}
 use Rattle.std.proofs.lemmas.Int.{ints}
 use Rattle.std.proofs.Math.IntN.{*ℤ_comm, *ℤ-zero}
 use Rattle.std.specs.List.{AllByRecursion as Each}
 use Rattle.nz_spec.specs.Vectors.{Vector, dot, plus, scaled, zero_vector, HasWidth, IsZero, IsNonzero, IsPrimitive}
 use Rattle.nz_spec.specs.Monoids.{IsAlong, SplitsAlong, IsExtreme, IsExtremeRay}
 use Rattle.nz_spec.proofs.IntLaws.{mul-nonneg}
-use Rattle.nz_spec.proofs.VectorLaws.{dot-scaled, IsZero-zero_vector, scaled-scaled, zero_vector_of, one-scaled, add-scaled}
-use Rattle.nz_linear.specs.Cones.{Satisfies}
+use Rattle.nz_spec.proofs.VectorLaws.{dot-scaled, IsZero-zero_vector, scaled-scaled, zero_vector_of, one-scaled, add-scaled, int_is_zero}
+use Rattle.nz_linear.specs.Cones.{Satisfies, IsInRows}
 use Rattle.nz_linear.specs.Extreme.{VanishesWith, IsPointed}
 use Rattle.nz_linear.specs.DoubleDescription.{IsOnRay, IsExtremeByZeros}
+use Rattle.nz_spec.proofs.ListLaws.{Each-contains}
+use Rattle.nz_linear.specs.RayStep.{AreExtremeRays}
+use Rattle.nz_linear.proofs.RayList.{each_extreme_listed}
 use Rattle.nz_linear.proofs.Ring.{sums, neg-mul, mul-one}
-use Rattle.nz_linear.proofs.Signs.{mul_le, mul_is_zero, mul_is_nonneg, sign_cases, int_zero_or_not}
+use Rattle.nz_linear.proofs.Signs.{mul_le, mul_is_zero, mul_is_nonneg, sign_cases}
 use Rattle.nz_linear.proofs.Lists.{each_map, each_map2, each_map3, map_each}
 use Rattle.nz_linear.proofs.VectorLaws.{length-plus, length-scaled, dot-plus, zero-scaled, same_values, cancel_scaled, scaled_is_zero}
 use Rattle.nz_linear.proofs.Cones.{above_zero}
 use Rattle.nz_linear.proofs.Division.{unit_value, primitive_nonzero, primitive_of, primitive_multiple}
 use Rattle.nz_linear.proofs.Members.{larger_than_all}
 use Rattle.nz_linear.proofs.DoubleDescription.{same_at}
-
--- the whole vectors of the cone of the rows
-abbrev pub IsInRows : ℕ → List Vector → Vector → Type 0
-IsInRows w rows y = HasWidth w y × Satisfies rows y
 
 along_of_ray : (x y : Vector) → IsOnRay x y → IsAlong x y
 along_of_ray x y r = record { multiple = r.multiple; factor = r.factor; positive = (let p = r.positive in omega (arith, sums)); same = r.same }
@@ -69,7 +68,7 @@ zeros_of_splits w rows x pt lx sx nx s y ly sy v =
     let lz : HasWidth w z = length-plus w (scaled N x) (scaled (negsuc 0) y) (length-scaled w N x lx) (length-scaled w (negsuc 0) y ly) in
     let value : (a : Vector) → dot a z ≡ N *ℤ dot a x +ℤ negsuc 0 *ℤ dot a y = λ a. dot-plus w a (scaled N x) (scaled (negsuc 0) y) (length-scaled w N x lx) (length-scaled w (negsuc 0) y ly) ∙ ap₂ ◌+ℤ◌ (dot-scaled a N x) (dot-scaled a (negsuc 0) y) in
     let sz : Satisfies rows z = each_map3 (λ a. pos 0 ≤ℤ dot a x) (λ a. dot a x ≡ pos 0 → dot a y ≡ pos 0) (λ a. dot a y ≤ℤ N) (λ a. pos 0 ≤ℤ dot a z) rows
-    (λ a px f h. elim (int_zero_or_not (dot a x)) [
+    (λ a px f h. elim (int_is_zero (dot a x)) [
       | inl e ↦ (let g = f e in omega (arith, ints, value a, ap (λ t. N *ℤ t) e, *ℤ-zero N, g))
       | inr d ↦ (let up : pos 1 ≤ℤ dot a x = omega (arith, sums) in let k = mul_le N (pos 1) (dot a x) (let q = n.1 in omega (arith, sums)) up in omega (arith, ints, value a, k, mul-one N, h))
     ]) sx v n.2 in
@@ -158,3 +157,20 @@ ray_of_extreme w rows x r =
         | inr less ↦ absurd (let q = p.is.positive in omega (arith, sums))
       ]
     ]
+
+-- the list of the extreme rays has just the primitive extreme rays
+pub listed_is_ray : (w : ℕ) (rows rays : List Vector) (x : Vector) → AreExtremeRays w rows rays → Contains rays x → IsExtremeRay (IsInRows w rows) x
+listed_is_ray w rows rays x r c =
+    let d = r.description in
+    extreme_ray_of_zeros w rows x (Each-contains (HasWidth w) rays x d.ray_widths c) (Each-contains (Satisfies rows) rays x d.sound c) (Each-contains IsPrimitive rays x r.primitive c) (Each-contains (IsExtremeByZeros w rows) rays x r.extreme c)
+
+pub ray_is_listed : (w : ℕ) (rows rays : List Vector) (x : Vector) → IsPointed w rows → AreExtremeRays w rows rays → IsExtremeRay (IsInRows w rows) x → Contains rays x
+ray_is_listed w rows rays x pt r y =
+    each_extreme_listed w rows rays x r y.member.0 y.member.1 y.primitive (zeros_of_splits w rows x pt y.member.0 y.member.1 (primitive_nonzero x y.primitive) y.splits_along)
+
+-- and just the extreme generators of the whole vectors of the cone
+pub listed_is_extreme : (w : ℕ) (rows rays : List Vector) (x : Vector) → IsPointed w rows → AreExtremeRays w rows rays → Contains rays x → IsExtreme (IsInRows w rows) x
+listed_is_extreme w rows rays x pt r c = extreme_of_ray w rows x pt (listed_is_ray w rows rays x r c)
+
+pub extreme_is_listed : (w : ℕ) (rows rays : List Vector) (x : Vector) → IsPointed w rows → AreExtremeRays w rows rays → IsExtreme (IsInRows w rows) x → Contains rays x
+extreme_is_listed w rows rays x pt r e = ray_is_listed w rows rays x pt r (ray_of_extreme w rows x e)

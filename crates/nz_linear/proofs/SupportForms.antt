@@ -1,5 +1,5 @@
 -- The support forms of a list are its primitive extreme valid forms.
-use Rattle.std.proofs.Common.{◌≡◌, ◌⊎◌, inl, inr, ℕ, suc, List, [], ◌∷◌, length, ℤ, pos, negsuc, ◌+ℤ◌, ◌*ℤ◌, neg_ℤ, ◌≤ℤ◌, ◌<ℤ◌, refl, sym, ap, ◌∙◌, subst, arith}
+use Rattle.std.proofs.Common.{◌≡◌, ◌⊎◌, inl, inr, ℕ, suc, List, [], ◌∷◌, length, ℤ, pos, negsuc, ◌+ℤ◌, ◌*ℤ◌, neg_ℤ, ◌≤ℤ◌, ◌<ℤ◌, refl, sym, ap, ap₂, ◌∙◌, subst, arith}
 use Rattle.std.proofs.lemmas.Int.{ints}
 use Rattle.std.proofs.Math.IntN.{*ℤ_comm, *ℤ-zero}
 use Rattle.std.specs.List.{AllByRecursion as Each, AllZip, Contains}
@@ -7,9 +7,11 @@ use Rattle.nz_spec.specs.Vectors.{Vector, dot, plus, scaled, zero_vector, entry,
 use Rattle.nz_spec.specs.Sums.{IsIndependent, HasRank}
 use Rattle.nz_spec.specs.Forms.{IsOtherColumn, IsZeroOnFacet, IsSupportForm}
 use Rattle.nz_spec.proofs.IntLaws.{mul-add, mul_assoc}
-use Rattle.nz_spec.proofs.VectorLaws.{dot-scaled, dot-zero}
+use Rattle.nz_spec.proofs.VectorLaws.{dot-scaled, dot-zero, int_is_zero}
 use Rattle.nz_spec.proofs.SumLaws.{length-zero_vector}
 use Rattle.std.proofs.lemmas.List.{length-map}
+use Rattle.nz_spec.proofs.EquationLaws.{dot_comm, zero_on_span, zero_outside_keys}
+use Rattle.nz_linear.proofs.ExtremeRays.{same_on_ray}
 use Rattle.nz_linear.proofs.Units.{entry_sum}
 use Rattle.nz_spec.proofs.ListLaws.{Each-contains, Each-from_contains, contains_here, contains_there, contains_cases}
 use Rattle.nz_spec.proofs.LinearLaws.{HasRank-unique}
@@ -18,15 +20,14 @@ use Rattle.nz_linear.specs.Elimination.{IsState}
 use Rattle.nz_linear.specs.DoubleDescription.{IsOnRay}
 use Rattle.nz_linear.specs.Facets.{IsValidForm, IsExtremeForm}
 use Rattle.nz_linear.proofs.Ring.{zero_sum, cross_gone, sums, ring_z, mul-one, neg-mul}
-use Rattle.nz_linear.proofs.Signs.{mul_le, cancel_mul, int_zero_or_not}
+use Rattle.nz_linear.proofs.Signs.{mul_le, cancel_mul}
 use Rattle.nz_linear.proofs.Lists.{each_map, each_map2, each_map3, each_append, each_right}
-use Rattle.nz_linear.proofs.VectorLaws.{length-plus, length-scaled, dot-plus, plus-dot, scaled-dot, dot_comm, scaled_is_zero, same_values}
+use Rattle.nz_linear.proofs.VectorLaws.{length-plus, length-scaled, dot-plus, plus-dot, scaled-dot, scaled_is_zero, same_values}
 use Rattle.nz_linear.proofs.Division.{primitive_nonzero}
 use Rattle.nz_linear.proofs.DualPairs.{dual_right}
 use Rattle.nz_linear.proofs.EliminationRun.{run}
-use Rattle.nz_linear.proofs.Spans.{zero_on_span}
 use Rattle.nz_linear.proofs.Rank.{chosen_rows, chosen_members, chosen_independent, rank_of_dual, rank_of_state, rank_and_left, independent_more, full_independent_span}
-use Rattle.nz_linear.proofs.NormalForms.{zero_form, difference, difference_value, normal_along}
+use Rattle.nz_linear.proofs.NormalForms.{difference, difference_value, normal_along}
 use Rattle.nz_linear.proofs.KeyColumns.{echelon, IsLeft, all_left, columns_are_other}
 use Rattle.nz_linear.proofs.Splitting.{enough_of}
 
@@ -38,7 +39,7 @@ pub record SomePositive (f : Vector) (G : List Vector) : Type 0 where
 
 pub zero_or_positive : (f : Vector) (G : List Vector) → Each (λ g. pos 0 ≤ℤ dot f g) G → Each (λ g. dot f g ≡ pos 0) G ⊎ SomePositive f G
 zero_or_positive f [] n = inl tt
-zero_or_positive f (g ∷ G) n = elim (int_zero_or_not (dot f g)) [
+zero_or_positive f (g ∷ G) n = elim (int_is_zero (dot f g)) [
   | inr d ↦ inr (record { vector = g; has = contains_here g G; positive = (let p = n.0 in omega (arith, sums)) })
   | inl z ↦ elim (zero_or_positive f G n.1) [
     | inl all ↦ inl (z, all)
@@ -58,7 +59,7 @@ zero_part f [] = record { list = []; members = tt; zero_on = tt; all = λ g c e.
 zero_part f (g ∷ G) =
     let t = zero_part f G in
     let still = each_map (Contains G) (Contains (g ∷ G)) t.list (λ x c. contains_there g x G c) t.members in
-    elim (int_zero_or_not (dot f g)) [
+    elim (int_is_zero (dot f g)) [
       | inl z ↦ record {
         list = g ∷ t.list;
         members = (contains_here g G, still);
@@ -100,6 +101,37 @@ rank_across w Z chosen free l s =
           (each_append (λ (p : Pair). dot p.form x ≡ pos 0) chosen free (each_map (λ (p : Pair). Contains Z p.form) (λ (p : Pair). dot p.form x ≡ pos 0) chosen (λ p c. Each-contains (λ z. dot z x ≡ pos 0) Z p.form i.1 c) s.from_seen) v);
     })
 
+-- N·f + x at a vector
+pushed_value : (w : ℕ) (N : ℤ) (f x a : Vector) → HasWidth w f → HasWidth w x → dot (plus (scaled N f) x) a ≡ N *ℤ dot f a +ℤ dot x a
+pushed_value w N f x a lf lx = plus-dot w (scaled N f) x a (length-scaled w N f lf) lx ∙ ap (λ t. t +ℤ dot x a) (scaled-dot N f a)
+
+-- where it is on the ray of f and x is 0 at a vector at which f is not, x is 0
+pushed_on_ray : (w : ℕ) (N m k : ℤ) (f x g : Vector) → HasWidth w f → HasWidth w x → pos 0 <ℤ m → pos 0 <ℤ dot f g → dot x g ≡ pos 0 → scaled m (plus (scaled N f) x) ≡ scaled k f → x ≡ zero_vector w
+pushed_on_ray w N m k f x g lf lx pm pg zg e =
+    scaled_is_zero w m x pm lx (same_values w (scaled m x) (zero_vector w) (length-scaled w m x lx) (length-zero_vector w) (λ h. dot-scaled h m x ∙ rest h ∙ sym (dot-zero h w)))
+  where
+    ring_to : (p m n : ℤ) → p *ℤ (m *ℤ n) ≡ m *ℤ (n *ℤ p)
+    ring_to p m n = simp ring_z (omega (arith, sums))
+
+    ring_rest : (m n f x y k : ℤ) → m *ℤ y ≡ k *ℤ f → y ≡ n *ℤ f +ℤ x → m *ℤ n ≡ k → m *ℤ x ≡ pos 0
+    ring_rest m n f x y k e1 e2 e3 =
+        let a : m *ℤ (n *ℤ f +ℤ x) ≡ (m *ℤ n) *ℤ f = ap (λ t. m *ℤ t) (sym e2) ∙ e1 ∙ ap (λ t. t *ℤ f) (sym e3) in
+        omega (arith, sums, a, mul-add m (n *ℤ f) x, mul_assoc m n f)
+
+    at_vector : (a : Vector) → m *ℤ dot (plus (scaled N f) x) a ≡ k *ℤ dot f a
+    at_vector a = sym (scaled-dot m (plus (scaled N f) x) a) ∙ ap (λ t. dot t a) e ∙ scaled-dot k f a
+
+    there : dot (plus (scaled N f) x) g ≡ N *ℤ dot f g
+    there = omega (arith, sums, pushed_value w N f x g lf lx, zg)
+
+    factor : m *ℤ N ≡ k
+    factor = cancel_mul (dot f g) (m *ℤ N) k pg (ring_to (dot f g) m N ∙ ap (λ t. m *ℤ t) (sym there) ∙ at_vector g ∙ *ℤ_comm k (dot f g))
+
+    rest : (h : Vector) → m *ℤ dot h x ≡ pos 0
+    rest h = ring_rest m N (dot h f) (dot h x) (dot h (plus (scaled N f) x)) k
+        (ap (λ t. m *ℤ t) (dot_comm h (plus (scaled N f) x)) ∙ at_vector h ∙ ap (λ t. k *ℤ t) (dot_comm f h))
+        (dot_comm h (plus (scaled N f) x) ∙ pushed_value w N f x h lf lx ∙ ap₂ (λ s t. N *ℤ s +ℤ t) (dot_comm f h) (dot_comm x h)) factor
+
 -- a form across the zeros of an extreme form f, 0 at the other columns and at a vector at which f is positive, is 0
 across_is_zero : (w : ℕ) (G Z : List Vector) (f x g : Vector) → Each (HasWidth w) G → IsValidForm w G f → IsExtremeForm w G f → ((v : Vector) → Contains G v → dot f v ≡ pos 0 → Contains Z v)
     → HasWidth w x → Each (λ z. dot z x ≡ pos 0) Z → ((j : ℕ) → IsOtherColumn w G j → entry x j ≡ pos 0) → Contains G g → pos 0 <ℤ dot f g → dot g x ≡ pos 0 → x ≡ zero_vector w
@@ -109,11 +141,11 @@ across_is_zero w G Z f x g lG v e all lx zx at cg pg zg =
     let N = n.0 in
     let y = plus (scaled N f) x in
     let ly : HasWidth w y = length-plus w (scaled N f) x (length-scaled w N f lf) lx in
-    let value : (a : Vector) → dot y a ≡ N *ℤ dot f a +ℤ dot x a = λ a. plus-dot w (scaled N f) x a (length-scaled w N f lf) lx ∙ ap (λ t. t +ℤ dot x a) (scaled-dot N f a) in
+    let value : (a : Vector) → dot y a ≡ N *ℤ dot f a +ℤ dot x a = λ a. pushed_value w N f x a lf lx in
     let zero_there : Each (λ a. dot f a ≡ pos 0 → dot x a ≡ pos 0) G = Each-from_contains (λ a. dot f a ≡ pos 0 → dot x a ≡ pos 0) G (λ a c z. dot_comm x a ∙ Each-contains (λ u. dot u x ≡ pos 0) Z a zx (all a c z)) in
     let below : Each (λ a. dot a (scaled (negsuc 0) x) ≤ℤ N) G = n.2 in
     let at_least : Each (λ a. pos 0 ≤ℤ dot y a) G = each_map3 (λ a. pos 0 ≤ℤ dot f a) (λ a. dot f a ≡ pos 0 → dot x a ≡ pos 0) (λ a. dot a (scaled (negsuc 0) x) ≤ℤ N) (λ a. pos 0 ≤ℤ dot y a) G
-    (λ a p z h. elim (int_zero_or_not (dot f a)) [
+    (λ a p z h. elim (int_is_zero (dot f a)) [
       | inl o ↦ (let q = z o in omega (arith, sums, value a, ap (λ t. N *ℤ t) o, *ℤ-zero N, q))
       | inr d ↦ (
           let up : pos 1 ≤ℤ dot f a = omega (arith, sums) in
@@ -127,23 +159,7 @@ across_is_zero w G Z f x g lG v e all lx zx at cg pg zg =
       zero_at = λ j o. entry_sum w N f x j lf lx ∙ omega (arith, sums, ap (λ t. N *ℤ t) (v.zero_at j o), *ℤ-zero N, at j o);
     } in
     let r = e y valid (each_map (λ a. dot f a ≡ pos 0 → dot x a ≡ pos 0) (λ a. dot f a ≡ pos 0 → dot y a ≡ pos 0) G (λ a z o. let q = z o in omega (arith, sums, value a, ap (λ t. N *ℤ t) o, *ℤ-zero N, q)) zero_there) in
-    let m = r.multiple in
-    let at_g : m *ℤ (N *ℤ dot f g) ≡ r.factor *ℤ dot f g = ap (λ t. m *ℤ t) (omega (arith, sums, value g, dot_comm x g, zg)) ∙ sym (scaled-dot m y g) ∙ ap (λ t. dot t g) r.same ∙ scaled-dot r.factor f g in
-    let factor_is : m *ℤ N ≡ r.factor = cancel_mul (dot f g) (m *ℤ N) r.factor pg (ring_to (dot f g) m N ∙ at_g ∙ *ℤ_comm r.factor (dot f g)) in
-    scaled_is_zero w m x r.positive lx
-    (same_values w (scaled m x) (zero_vector w) (length-scaled w m x lx) (length-zero_vector w)
-    (λ h.
-    let e1 : m *ℤ dot h y ≡ r.factor *ℤ dot h f = sym (dot-scaled h m y) ∙ ap (dot h) r.same ∙ dot-scaled h r.factor f in
-    let e2 : dot h y ≡ N *ℤ dot h f +ℤ dot h x = dot-plus w h (scaled N f) x (length-scaled w N f lf) lx ∙ ap (λ t. t +ℤ dot h x) (dot-scaled h N f) in
-    dot-scaled h m x ∙ ring_rest m N (dot h f) (dot h x) (dot h y) r.factor e1 e2 factor_is ∙ sym (dot-zero h w)))
-  where
-    ring_to : (p m n : ℤ) → p *ℤ (m *ℤ n) ≡ m *ℤ (n *ℤ p)
-    ring_to p m n = simp ring_z (omega (arith, sums))
-
-    ring_rest : (m n f x y k : ℤ) → m *ℤ y ≡ k *ℤ f → y ≡ n *ℤ f +ℤ x → m *ℤ n ≡ k → m *ℤ x ≡ pos 0
-    ring_rest m n f x y k e1 e2 e3 =
-        let a : m *ℤ (n *ℤ f +ℤ x) ≡ (m *ℤ n) *ℤ f = ap (λ t. m *ℤ t) (sym e2) ∙ e1 ∙ ap (λ t. t *ℤ f) (sym e3) in
-        omega (arith, sums, a, mul-add m (n *ℤ f) x, mul_assoc m n f)
+    pushed_on_ray w N r.multiple r.factor f x g lf lx r.positive pg (dot_comm x g ∙ zg) r.same
 
 -- the pair of a vector at which f is positive and f, with the equations
 facet_pair : (w : ℕ) (G : List Vector) (f g : Vector) (columns : List ℕ) (free : List Pair) → HasWidth w f → HasWidth w g → Contains G g → Each (λ c. entry f c ≡ pos 0) columns → AllZip (IsLeft w G) columns free → Each (IsApart (pair_of g f)) free
@@ -161,7 +177,7 @@ columns_zero w G x (c ∷ columns) (p ∷ free) lx k v = (sym (k.0.column.unit x
 
 pub support_of_extreme : (w : ℕ) (G : List Vector) (f : Vector) → Each (HasWidth w) G → IsValidForm w G f → IsPrimitive f → IsExtremeForm w G f → IsSupportForm w G f
 support_of_extreme w G f lG v p e =
-    let not_all : ¬ Each (λ g. dot f g ≡ pos 0) G = λ (z : Each (λ g. dot f g ≡ pos 0) G). primitive_nonzero f p (zero_form w G f v.width lG z v.zero_at) in
+    let not_all : ¬ Each (λ g. dot f g ≡ pos 0) G = λ (z : Each (λ g. dot f g ≡ pos 0) G). primitive_nonzero f p (zero_outside_keys w G lG f v.width z v.zero_at) in
     record {
       width = v.width;
       primitive = p;
@@ -247,7 +263,7 @@ on_ray_by_facet w G f y lG s v z = elim (zero_or_positive f G s.at_least) [
         let same_on : Each (λ x. a *ℤ dot y x ≡ b *ℤ dot f x) G = Each-from_contains (λ x. a *ℤ dot y x ≡ b *ℤ dot f x) G
         (λ x k.
         let i = full_independent_span w (Contains G) (suc (length c.vectors)) (g ∷ c.vectors) x (λ u m. Each-contains (HasWidth w) G u lG m) c.rank (t.has, c.of_list) free refl k in
-        omega (arith, sums, zero_on_span w d (g ∷ c.vectors) x (lg, lv) zero_on i, value x, neg-mul b (dot f x))) in
+        omega (arith, sums, zero_on_span d w (g ∷ c.vectors) x (lg, lv) zero_on i, value x, neg-mul b (dot f x))) in
         record {
           multiple = a;
           positive = t.positive;
@@ -259,3 +275,10 @@ on_ray_by_facet w G f y lG s v z = elim (zero_or_positive f G s.at_least) [
 pub extreme_of_support : (w : ℕ) (G : List Vector) (f : Vector) → Each (HasWidth w) G → IsSupportForm w G f → IsExtremeForm w G f
 extreme_of_support w G f lG s y v z = on_ray_by_facet w G f y lG s v
     (each_map2 (Contains G) (λ u. dot f u ≡ pos 0) (λ u. dot y u ≡ pos 0) s.facet.vectors (λ u k e. Each-contains (λ x. dot f x ≡ pos 0 → dot y x ≡ pos 0) G u z k e) s.facet.of_list s.facet.zero_on)
+
+-- two support forms that are 0 on the same independent vectors, one fewer than the rank, are the same
+pub same_support_form : (w : ℕ) (G : List Vector) (f g : Vector) (vs : List Vector) → Each (HasWidth w) G → IsSupportForm w G f → IsSupportForm w G g → Each (Contains G) vs → IsIndependent w vs → HasRank w (Contains G) (suc (length vs))
+    → Each (λ v. dot f v ≡ pos 0) vs → Each (λ v. dot g v ≡ pos 0) vs → f ≡ g
+same_support_form w G f g vs lG s t of_list free rank zf zg =
+    let s' : IsSupportForm w G f = record { width = s.width; primitive = s.primitive; zero_at = s.zero_at; at_least = s.at_least; not_all = s.not_all; facet = record { vectors = vs; of_list = of_list; independent = free; zero_on = zf; rank = rank } } in
+    sym (same_on_ray w g f t.width s.width t.primitive s.primitive (on_ray_by_facet w G f g lG s' (support_is_valid w G g t) zg))

@@ -1,16 +1,16 @@
 -- Entries of vectors: unit vectors, the first and the last entry that is not 0.
-use Rattle.std.proofs.Common.{◌≡◌, ◌≢◌, ◌⊎◌, inl, inr, ℕ, zero, suc, ◌<◌, List, [], ◌∷◌, length, map, ℤ, pos, ◌+ℤ◌, ◌*ℤ◌, refl, sym, ap, ap₂, ◌∙◌, arith}
+use Rattle.std.proofs.Common.{◌≡◌, ◌≢◌, ℕ, zero, suc, ◌<◌, List, [], ◌∷◌, length, map, ℤ, pos, ◌+ℤ◌, ◌*ℤ◌, refl, sym, ap, ap₂, ◌∙◌, arith}
 use Rattle.std.proofs.Math.IntN.{*ℤ-zero}
 use Rattle.std.specs.List.{Contains}
-use Rattle.nz_spec.specs.Vectors.{Vector, dot, plus, scaled, zero_vector, entry, unit_vectors, HasWidth, IsZero}
+use Rattle.nz_spec.specs.Vectors.{Vector, dot, plus, scaled, zero_vector, entry, unit_vectors, HasWidth}
 use Rattle.nz_spec.specs.Forms.{LeadsAt}
 use Rattle.nz_spec.proofs.IntLaws.{zero_product}
-use Rattle.nz_spec.proofs.VectorLaws.{dot-scaled, dot-zero, dot-IsZero}
+use Rattle.nz_spec.proofs.VectorLaws.{dot-scaled, dot-zero}
 use Rattle.nz_spec.proofs.SumLaws.{length-zero_vector}
 use Rattle.nz_spec.proofs.ListLaws.{contains_here, contains_there}
+use Rattle.nz_spec.proofs.EquationLaws.{dot_comm, dot_at_lead, entry_at_lead}
 use Rattle.nz_linear.proofs.Ring.{sums, mul-one}
-use Rattle.nz_linear.proofs.Signs.{int_zero_or_not}
-use Rattle.nz_linear.proofs.VectorLaws.{dot_comm, length-scaled, length-plus, dot-plus}
+use Rattle.nz_linear.proofs.VectorLaws.{length-scaled, length-plus, dot-plus}
 use Rattle.nz_linear.specs.Echelon.{unit_at, EndsAt}
 
 -- ---- unit vectors
@@ -56,9 +56,6 @@ unit_at_listed (suc w) (suc j) h = contains_there (pos 1 ∷ zero_vector w) (pos
     contains_mapped (v ∷ us) u (zero, h, e) = (zero, omega arith, ap (λ t. pos 0 ∷ t) e)
     contains_mapped (v ∷ us) u (suc k, h, e) = contains_there (pos 0 ∷ v) (pos 0 ∷ u) _ (contains_mapped us u (k, omega arith, e))
 
-pub entry-scaled : (w : ℕ) (k : ℤ) (x : Vector) (j : ℕ) → HasWidth w x → entry (scaled k x) j ≡ k *ℤ entry x j
-entry-scaled w k x j l = sym (unit_at-dot w j (scaled k x) (length-scaled w k x l)) ∙ dot-scaled (unit_at w j) k x ∙ ap (λ t. k *ℤ t) (unit_at-dot w j x l)
-
 pub entry_sum : (w : ℕ) (k : ℤ) (x y : Vector) (j : ℕ) → HasWidth w x → HasWidth w y → entry (plus (scaled k x) y) j ≡ k *ℤ entry x j +ℤ entry y j
 entry_sum w k x y j lx ly =
     let e = unit_at w j in
@@ -66,50 +63,11 @@ entry_sum w k x y j lx ly =
     sym (unit_at-dot w j (plus (scaled k x) y) (length-plus w (scaled k x) y ls ly)) ∙ dot-plus w e (scaled k x) y ls ly ∙ ap₂ ◌+ℤ◌ (dot-scaled e k x ∙ ap (λ t. k *ℤ t) (unit_at-dot w j x lx)) (unit_at-dot w j y ly)
 
 -- ---- the first and the last nonzero entry
-pub zero_entries : (x : Vector) → ((j : ℕ) → entry x j ≡ pos 0) → IsZero x
-zero_entries [] h = tt
-zero_entries (a ∷ x) h = (h 0, zero_entries x (λ j. h (suc j)))
-
-pub entry-IsZero : (x : Vector) (j : ℕ) → IsZero x → entry x j ≡ pos 0
-entry-IsZero [] j z = refl
-entry-IsZero (a ∷ x) zero z = z.0
-entry-IsZero (a ∷ x) (suc j) z = entry-IsZero x j z.1
-
 pub leads_at : (x : Vector) (j : ℕ) → entry x j ≢ pos 0 → ((k : ℕ) → k < j → entry x k ≡ pos 0) → LeadsAt j x
 leads_at [] j n z = n refl
 leads_at (a ∷ x) zero n z = n
 leads_at (a ∷ x) (suc j) n z = (z 0 (omega arith), leads_at x j n (λ k l. z (suc k) (omega arith)))
 
--- a vector is 0 or has a last entry that is not
-pub zero_or_ends : (f : Vector) → IsZero f ⊎ ((j : ℕ) × EndsAt j f)
-zero_or_ends [] = inl tt
-zero_or_ends (a ∷ f) = elim (zero_or_ends f) [
-  | inl z ↦ elim (int_zero_or_not a) [
-    | inl e ↦ inl (e, z)
-    | inr n ↦ inr (0, record { nonzero = n; after = after z })
-  ]
-  | inr (j, e) ↦ inr (suc j, record { nonzero = e.nonzero; after = more j e })
-]
-  where
-    after : IsZero f → (k : ℕ) → 0 < k → entry (a ∷ f) k ≡ pos 0
-    after z zero l = absurd (omega arith)
-    after z (suc k) l = entry-IsZero f k z
-
-    more : (j : ℕ) → EndsAt j f → (k : ℕ) → suc j < k → entry (a ∷ f) k ≡ pos 0
-    more j e zero l = absurd (omega arith)
-    more j e (suc k) l = e.after k (omega arith)
-
 -- a form that ends where a vector begins is not 0 at it
 pub value_at_end : (f x : Vector) (j : ℕ) → EndsAt j f → LeadsAt j x → dot f x ≢ pos 0
-value_at_end [] x j e l = λ h. e.nonzero refl
-value_at_end (a ∷ f) [] j e l = absurd l
-value_at_end (a ∷ f) (b ∷ x) zero e l = λ h.
-    let z : IsZero f = zero_entries f (λ k. e.after (suc k) (omega arith)) in
-    l (zero_product a b e.nonzero (omega (arith, sums, h, dot_comm f x, dot-IsZero x f z)))
-value_at_end (a ∷ f) (b ∷ x) (suc j) e l = λ h.
-    value_at_end f x j (record { nonzero = e.nonzero; after = λ k m. e.after (suc k) (omega arith) }) l.1 (omega (arith, sums, h, ap (λ t. a *ℤ t) l.0, *ℤ-zero a))
-
-pub ends_within : (f : Vector) (j : ℕ) → EndsAt j f → j < length f
-ends_within [] j e = absurd (e.nonzero refl)
-ends_within (a ∷ f) zero e = omega arith
-ends_within (a ∷ f) (suc j) e = let r = ends_within f j (record { nonzero = e.nonzero; after = λ k m. e.after (suc k) (omega arith) }) in omega arith
+value_at_end f x j e l = λ h. entry_at_lead x j l (zero_product (entry f j) (entry x j) e.nonzero (sym (dot_at_lead f x j l e.after) ∙ h))

@@ -2,13 +2,14 @@
 -- The width is the first argument of each law that needs one, so that `simp` can be given `dot-plus w` and finds the rest; laws without a width are those of nz_spec.
 use Rattle.std.proofs.Common.{◌≡◌, ℕ, zero, suc, [], ◌∷◌, length, ℤ, pos, negsuc, ◌+ℤ◌, ◌*ℤ◌, ◌<ℤ◌, refl, sym, ap, ◌∙◌, arith}
 use Rattle.std.proofs.lemmas.Int.{ints}
-use Rattle.std.proofs.Math.IntN.{zero-*ℤ, *ℤ_comm}
+use Rattle.std.proofs.Math.IntN.{zero-*ℤ}
 use Rattle.nz_spec.specs.Vectors.{Vector, dot, plus, scaled, zero_vector}
 use Rattle.nz_spec.proofs.VectorLaws.{dot-scaled, dot-zero, plus_comm, plus_assoc, scaled-scaled, scaled-zero}
 use Rattle.nz_spec.proofs.VectorLaws as spec
 use Rattle.nz_spec.proofs.SumLaws.{length-zero_vector}
+use Rattle.nz_spec.proofs.EquationLaws.{dot_comm}
+use Rattle.nz_spec.proofs.PrimitiveLaws.{scaled_cancel}
 use Rattle.nz_linear.proofs.Ring.{sums, one-mul}
-use Rattle.nz_linear.proofs.Signs.{cancel_mul}
 
 pub cons_same : {a b : ℤ} {x y : Vector} → a ≡ b → x ≡ y → (a ∷ x) ≡ (b ∷ y)
 cons_same e r = λ i. e i ∷ r i
@@ -21,12 +22,6 @@ pub length-scaled : (w : ℕ) (k : ℤ) (x : Vector) → length x ≡ w → leng
 length-scaled w k x h = spec.length-scaled k x ∙ h
 
 -- ---- the value is linear in both arguments
-pub dot_comm : (f x : Vector) → dot f x ≡ dot x f
-dot_comm [] [] = refl
-dot_comm [] (b ∷ x) = refl
-dot_comm (a ∷ f) [] = refl
-dot_comm (a ∷ f) (b ∷ x) = omega (arith, sums, *ℤ_comm a b, dot_comm f x)
-
 pub dot-plus : (w : ℕ) (f x y : Vector) → length x ≡ w → length y ≡ w → dot f (plus x y) ≡ dot f x +ℤ dot f y
 dot-plus w f x y h k = spec.dot-plus f x y (h ∙ sym k)
 
@@ -59,15 +54,12 @@ plus-zero w x h = plus_comm x (zero_vector w) ∙ zero-plus w x h
 pub zero-scaled : (w : ℕ) (x : Vector) → length x ≡ w → scaled (pos 0) x ≡ zero_vector w
 zero-scaled w x h = spec.zero-scaled x ∙ ap zero_vector h
 
-pub scaled_comm : (j k : ℤ) (x : Vector) → scaled j (scaled k x) ≡ scaled k (scaled j x)
-scaled_comm j k x = scaled-scaled j k x ∙ ap (λ t. scaled t x) (*ℤ_comm j k) ∙ sym (scaled-scaled k j x)
-
 -- ---- cancellation
 pub cancel_plus : (w : ℕ) (x y z : Vector) → length x ≡ w → length y ≡ w → length z ≡ w → plus x y ≡ plus x z → y ≡ z
 cancel_plus w x y z h k l e = same_values w y z k l (λ f. omega (arith, sums, ap (dot f) e, dot-plus w f x y h k, dot-plus w f x z h l))
 
 pub cancel_scaled : (w : ℕ) (k : ℤ) (x y : Vector) → pos 0 <ℤ k → length x ≡ w → length y ≡ w → scaled k x ≡ scaled k y → x ≡ y
-cancel_scaled w k x y p h l e = same_values w x y h l (λ f. cancel_mul k (dot f x) (dot f y) p (sym (dot-scaled f k x) ∙ ap (dot f) e ∙ dot-scaled f k y))
+cancel_scaled w k x y p h l e = scaled_cancel k (λ z. omega (arith, sums)) x y e
 
 pub scaled_is_zero : (w : ℕ) (k : ℤ) (x : Vector) → pos 0 <ℤ k → length x ≡ w → scaled k x ≡ zero_vector w → x ≡ zero_vector w
 scaled_is_zero w k x p h e = cancel_scaled w k x (zero_vector w) p h (length-zero_vector w) (e ∙ sym (scaled-zero k w))

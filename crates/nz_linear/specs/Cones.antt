@@ -8,6 +8,10 @@ use Rattle.nz_spec.specs.Sums.{IsInCone}
 abbrev pub Satisfies : List Vector → Vector → Type 0
 Satisfies rows x = Each (λ a. pos 0 ≤ℤ dot a x) rows
 
+-- the whole vectors of the cone of the rows
+abbrev pub IsInRows : ℕ → List Vector → Vector → Type 0
+IsInRows w rows x = HasWidth w x × Satisfies rows x
+
 -- the rays satisfy the rows, and a form that is at least 0 at each ray is a sum of rows
 pub record IsDoubleDescription (w : ℕ) (rows rays : List Vector) : Type 0 where
   pub row_widths : Each (HasWidth w) rows

@@ -19,6 +19,7 @@ pub record IsThird (w : ℕ) (rows : List Vector) (p n r : Vector) : Type 0 wher
   pub apart_p : HaveApartZeros rows p r
   pub apart_n : HaveApartZeros rows n r
 
+-- such a ray is there
 pub record HasThird (w : ℕ) (rows : List Vector) (p n : Vector) : Type 0 where
   pub ray : Vector
   pub is : IsThird w rows p n ray

@@ -3,10 +3,12 @@ use Rattle.std.specs.Prelude.{◌≡◌, ℕ, List, [], ◌∷◌, length, ℤ, 
 use Rattle.std.specs.List.{AllByRecursion as Each}
 use Rattle.nz_spec.specs.Vectors.{Vector, dot, plus, scaled, zero_vector}
 
+-- a form and a vector
 pub record Pair : Type 0 where
   pub form : Vector
   pub vector : Vector
 
+-- the pair of these two
 abbrev pub pair_of : Vector → Vector → Pair
 pair_of f v = record { form = f; vector = v }
 
@@ -14,22 +16,27 @@ pair_of f v = record { form = f; vector = v }
 abbrev pub divisor : Pair → ℤ
 divisor p = dot p.form p.vector
 
+-- each form is 0 at the other vector
 pub record IsApart (p q : Pair) : Type 0 where
   pub there : dot p.form q.vector ≡ pos 0
   pub back : dot q.form p.vector ≡ pos 0
 
+-- the form and the vector have w entries
 pub record HasWidths (w : ℕ) (p : Pair) : Type 0 where
   pub form_width : length p.form ≡ w
   pub vector_width : length p.vector ≡ w
 
+-- each form is positive at its own vector, and 0 at the others
 abbrev pub IsDual : List Pair → Type 0
 IsDual [] = Unit {0}
 IsDual (p ∷ ps) = (pos 0 <ℤ divisor p) × Each (IsApart p) ps × IsDual ps
 
+-- a dual pair: forms and vectors of one width, each form positive at its own vector and 0 at the others
 pub record IsDualPair (w : ℕ) (ps : List Pair) : Type 0 where
   pub widths : Each (HasWidths w) ps
   pub dual : IsDual ps
 
+-- all the forms are 0 at x
 abbrev pub AllVanish : List Pair → Vector → Type 0
 AllVanish ps x = Each (λ p. dot p.form x ≡ pos 0) ps
 

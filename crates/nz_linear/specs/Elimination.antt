@@ -38,6 +38,7 @@ pub record IsState (w : ℕ) (seen : List Vector) (chosen free : List Pair) : Ty
   pub from_seen : Each (λ p. Contains seen p.form) chosen
   pub free_vanish : Each (λ p. Each (λ r. dot r p.vector ≡ pos 0) seen) free
 
+-- the pair with a 0 before all entries
 abbrev pub shifted : Pair → Pair
 shifted p = pair_of (pos 0 ∷ p.form) (pos 0 ∷ p.vector)
 

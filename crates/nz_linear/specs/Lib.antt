@@ -7,3 +7,5 @@ pub mod DoubleDescription
 pub mod RayStep
 pub mod Echelon
 pub mod Facets
+pub mod Laws
+pub mod Coordinates

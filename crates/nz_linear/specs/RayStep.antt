@@ -55,6 +55,7 @@ pub record HasOther (rows rays : List Vector) (p n : Vector) : Type 0 where
   pub not_n : n ≢ ray
   pub vanishes : Each (λ a. dot a p ≡ pos 0 → dot a n ≡ pos 0 → dot a ray ≡ pos 0) rows
 
+-- the list after h: it has only rays kept and sums of adjacent pairs, it has each ray on h's side, and for two rays on both sides it has their sum, or another ray makes it needless
 pub record IsRayStep (h : Vector) (rows rays cut : List Vector) : Type 0 where
   pub only : Each (λ x. IsKept h rays x ⊎ IsFromPair h rows rays x) cut
   pub keeps : Each (λ r. pos 0 ≤ℤ dot h r → Contains cut r) rays

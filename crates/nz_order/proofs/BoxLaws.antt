@@ -6,17 +6,10 @@ use Rattle.std.specs.List.{AllByRecursion as Each}
 use Rattle.nz_spec.specs.Vectors.{Vector, dot, plus, minus, zero_vector, unit_vectors, IsZero, IsNonzero, IsMultipleOf}
 use Rattle.nz_spec.specs.Systems.{Congruence, System, IsMember}
 use Rattle.nz_spec.specs.Monoids.{IsIrreducible}
+use Rattle.nz_spec.proofs.PrimitiveLaws.{same_of_zero_minus}
 use Rattle.nz_order.specs.Boxes.{IsBelow, NonNegative, Holds, IsOrthant, IsCommonMultiple, HasNoOtherBelow, IsWithin}
 use Rattle.nz_spec.proofs.IntLaws.{multiple_add, multiple_sub, multiple_mul, multiple_zero}
 use Rattle.nz_spec.proofs.VectorLaws.{length-minus, dot-minus, plus-minus, zero-dot, dot-IsZero, IsZero-zero_vector}
-
-pub same_of_zero_minus : (x y : Vector) → length x ≡ length y → IsZero (minus x y) → x ≡ y
-same_of_zero_minus [] [] h e = refl
-same_of_zero_minus [] (b ∷ y) h e = absurd (omega arith)
-same_of_zero_minus (a ∷ x) [] h e = absurd (omega arith)
-same_of_zero_minus (a ∷ x) (b ∷ y) h e =
-    let s : a ≡ b = omega (arith, ints, e.0) in
-    let r = same_of_zero_minus x y (omega arith) e.1 in cc
 
 pub zero_of_same_plus : (y z : Vector) → length y ≡ length z → plus y z ≡ y → IsZero z
 zero_of_same_plus [] [] h e = tt

@@ -9,14 +9,14 @@ use Rattle.nz_spec.proofs.VectorLaws.{length-minus, dot-plus, plus-minus, minus-
 use Rattle.nz_spec.proofs.ListLaws.{Each-weaker, Each-contains, contains_here, contains_there}
 use Rattle.nz_spec.proofs.MemberLaws.{zero_of_both}
 use Rattle.nz_spec.proofs.PrimitiveLaws.{same_of_zero_minus}
-use Rattle.nz_spec.proofs.PartsSums.{some_irreducible}
+use Rattle.nz_spec.proofs.PartsSums.{some_irreducible, plus-zero}
 use Rattle.nz_spec.proofs.UniqueLaws.{same_or_not}
 use Rattle.nz_order.specs.Reduction.{Reduces}
 use Rattle.nz_order.specs.Totals.{IsTotalOf}
 use Rattle.nz_order.proofs.TotalLaws.{IsTotalOf-zero, IsTotalOf-plus, IsTotalOf-member, IsTotalOf-one, nonzero_term}
 
 -- the opposite of what adds up to 0
-opposite_of_sum : (x y : Vector) → length x ≡ length y → IsZero (plus x y) → opposite y ≡ x
+pub opposite_of_sum : (x y : Vector) → length x ≡ length y → IsZero (plus x y) → opposite y ≡ x
 opposite_of_sum [] [] l z = refl
 opposite_of_sum [] (b ∷ y) l z = absurd (omega (arith, l))
 opposite_of_sum (a ∷ x) [] l z = absurd (omega (arith, l))
@@ -30,14 +30,6 @@ zero_of_minus_self : (x : Vector) → IsZero (minus x x)
 zero_of_minus_self [] = tt
 zero_of_minus_self (a ∷ x) = (omega (arith, ints), zero_of_minus_self x)
 
-plus-IsZero : (x z : Vector) → length x ≡ length z → IsZero z → plus x z ≡ x
-plus-IsZero [] [] l h = refl
-plus-IsZero [] (b ∷ z) l h = absurd (omega (arith, l))
-plus-IsZero (a ∷ x) [] l h = absurd (omega (arith, l))
-plus-IsZero (a ∷ x) (b ∷ z) l h =
-    let e : a +ℤ b ≡ a = omega (arith, ints, h.0) in
-    let t = plus-IsZero x z (omega (arith, l)) h.1 in cc
-
 module _ (Member : Vector → Type 0) (closed : IsClosed Member) (w : ℕ) (wide : (x : Vector) → Member x → HasWidth w x) (zero_in : Member (zero_vector w)) where
   -- an irreducible that is a sum of members that have P has P
   pub irreducible_has : (P : Vector → Type 0) → ((v : Vector) → P v → Member v) → (x : Vector) → IsIrreducible Member x → IsTotalOf w P x → P x
@@ -45,7 +37,7 @@ module _ (Member : Vector → Type 0) (closed : IsClosed Member) (w : ℕ) (wide
       let h = nonzero_term w P (λ v p. wide v (members v p)) x i.nonzero t in
       let m = IsTotalOf-member w P Member closed zero_in members h.rest h.others in
       elim (zero_or_not h.rest) [
-        | inl z ↦ subst P (sym (plus-IsZero h.term h.rest (wide h.term (members h.term h.has) ∙ sym (wide h.rest m)) z) ∙ h.same) h.has
+        | inl z ↦ subst P (sym (plus-zero h.term h.rest (wide h.term (members h.term h.has) ∙ sym (wide h.rest m)) z) ∙ h.same) h.has
         | inr n ↦ absurd (i.no_sum h.term h.rest (members h.term h.has) h.nonzero m n h.same)
       ]
 
@@ -110,9 +102,9 @@ module _ (Member : Vector → Type 0) (closed : IsClosed Member) (w : ℕ) (wide
           let d = degree f.0 i.member i.nonzero in
           let s : dot form f.0 +ℤ dot form (minus x f.0) ≡ dot form x = sym (dot-plus form f.0 (minus x f.0) (sym (length-minus x f.0 l ∙ l))) ∙ ap (dot form) (plus-minus x f.0 l) in
           subst (IsTotalOf w (Contains H)) (plus-minus x f.0 l)
-            (IsTotalOf-plus w (Contains H) (λ v c. wide v (Each-contains (IsIrreducible Member) H v only c).member) f.0 (minus x f.0)
-              (IsTotalOf-one w (Contains H) f.0 we f.1)
-              (below_bound form degree H only each can n (minus x f.0) (omega (arith, ints, s, d, h)) f.2)))
+          (IsTotalOf-plus w (Contains H) (λ v c. wide v (Each-contains (IsIrreducible Member) H v only c).member) f.0 (minus x f.0)
+          (IsTotalOf-one w (Contains H) f.0 we f.1)
+          (below_bound form degree H only each can n (minus x f.0) (omega (arith, ints, s, d, h)) f.2)))
       | inr all ↦ absurd (some_irreducible Member closed w wide zero_in form degree (suc n) x h m nz (λ e i k. Each-contains (λ e. ¬ Member (minus x e)) H e all (each e i) k))
     ]
   ]

@@ -3,5 +3,12 @@ pub mod SortLaws
 pub mod TotalLaws
 pub mod IrreducibleLaws
 pub mod RowLaws
+pub mod SystemLaws
+pub mod CandidateLaws
+pub mod PartLaws
+pub mod InsertLaws
+pub mod SideLaws
+pub mod PairLaws
+pub mod StageInsert
 pub mod BoxLaws
 pub mod SearchLaws

@@ -1,38 +1,85 @@
 -- Orders, and lists in an order.
-use Rattle.std.proofs.Common.{◌≡◌, ◌⊎◌, inl, inr, List, [], ◌∷◌, ◌++◌, length, ◌≤ℤ◌, ◌<ℤ◌, Option, Some, None, refl, sym, ◌∙◌, arith}
+use Rattle.std.proofs.Common.{◌≡◌, ℕ, zero, suc, ◌<◌, ◌⊎◌, inl, inr, List, [], ◌∷◌, ◌++◌, length, ℤ, ◌≤ℤ◌, ◌<ℤ◌, Option, Some, None, refl, sym, ap, ◌∙◌, subst, arith}
 use Rattle.std.proofs.lemmas.Int.{ints, by_lt_z}
 use Rattle.std.specs.List.{AllByRecursion as Each}
 use Rattle.nz_spec.specs.Vectors.{Vector}
-use Rattle.nz_spec.specs.Order.{IsLexBefore, StandsBefore, degree, Pairwise}
+use Rattle.nz_spec.specs.Order.{IsLexLess, IsLexBefore, StandsBefore, degree, Pairwise}
 
--- no vector is before itself
-pub lex_irreflexive : (x : Vector) → IsLexBefore x x → ⊥
-lex_irreflexive [] h = h
-lex_irreflexive (a ∷ x) (inl h) = omega (arith, ints, h)
-lex_irreflexive (a ∷ x) (inr (e, h)) = lex_irreflexive x h
+-- an order of entries gives the lexicographic order of lists: irreflexive, transitive, and total at one length
+module _ {A : Type 0} (Less : A → A → Type 0) (irreflexive : (a : A) → Less a a → ⊥) (transitive : (a b c : A) → Less a b → Less b c → Less a c) (cases : (a b : A) → Less a b ⊎ ((a ≡ b) ⊎ Less b a)) where
+  pub lexless_irreflexive : (x : List A) → IsLexLess Less x x → ⊥
+  lexless_irreflexive [] h = h
+  lexless_irreflexive (a ∷ x) (inl h) = irreflexive a h
+  lexless_irreflexive (a ∷ x) (inr (e, h)) = lexless_irreflexive x h
 
-pub lex_transitive : (x y z : Vector) → IsLexBefore x y → IsLexBefore y z → IsLexBefore x z
-lex_transitive [] y z h k = absurd h
-lex_transitive (a ∷ x) [] z h k = absurd h
-lex_transitive (a ∷ x) (b ∷ y) [] h k = absurd k
-lex_transitive (a ∷ x) (b ∷ y) (c ∷ z) (inl h) (inl k) = inl (omega (arith, ints, h, k))
-lex_transitive (a ∷ x) (b ∷ y) (c ∷ z) (inl h) (inr (e, k)) = inl (omega (arith, ints, h, e))
-lex_transitive (a ∷ x) (b ∷ y) (c ∷ z) (inr (d, h)) (inl k) = inl (omega (arith, ints, d, k))
-lex_transitive (a ∷ x) (b ∷ y) (c ∷ z) (inr (d, h)) (inr (e, k)) = inr (d ∙ e, lex_transitive x y z h k)
+  pub lexless_transitive : (x y z : List A) → IsLexLess Less x y → IsLexLess Less y z → IsLexLess Less x z
+  lexless_transitive [] y z h k = absurd h
+  lexless_transitive (a ∷ x) [] z h k = absurd h
+  lexless_transitive (a ∷ x) (b ∷ y) [] h k = absurd k
+  lexless_transitive (a ∷ x) (b ∷ y) (c ∷ z) (inl h) (inl k) = inl (transitive a b c h k)
+  lexless_transitive (a ∷ x) (b ∷ y) (c ∷ z) (inl h) (inr (e, k)) = inl (subst (Less a) e h)
+  lexless_transitive (a ∷ x) (b ∷ y) (c ∷ z) (inr (d, h)) (inl k) = inl (subst (λ (v : A). Less v c) (sym d) k)
+  lexless_transitive (a ∷ x) (b ∷ y) (c ∷ z) (inr (d, h)) (inr (e, k)) = inr (d ∙ e, lexless_transitive x y z h k)
 
--- of two vectors of one width one is before the other, or they are the same
-pub lex_cases : (x y : Vector) → length x ≡ length y → IsLexBefore x y ⊎ ((x ≡ y) ⊎ IsLexBefore y x)
-lex_cases [] [] l = inr (inl refl)
-lex_cases [] (b ∷ y) l = absurd (omega arith)
-lex_cases (a ∷ x) [] l = absurd (omega arith)
-lex_cases (a ∷ x) (b ∷ y) l = by_lt_z a b (λ (lt : a <ℤ b). inl (inl lt))
-    (λ (le : b ≤ℤ a). by_lt_z b a (λ (gt : b <ℤ a). inr (inr (inl gt)))
-    (λ (ge : a ≤ℤ b). let e : a ≡ b = omega (arith, ints) in
-    elim (lex_cases x y (omega arith)) [
+  pub lexless_cases : (x y : List A) → length x ≡ length y → IsLexLess Less x y ⊎ ((x ≡ y) ⊎ IsLexLess Less y x)
+  lexless_cases [] [] l = inr (inl refl)
+  lexless_cases [] (b ∷ y) l = absurd (omega (arith, l))
+  lexless_cases (a ∷ x) [] l = absurd (omega (arith, l))
+  lexless_cases (a ∷ x) (b ∷ y) l = elim (cases a b) [
+    | inl h ↦ inl (inl h)
+    | inr (inl e) ↦ elim (lexless_cases x y (omega (arith, l))) [
       | inl h ↦ inl (inr (e, h))
       | inr (inl s) ↦ inr (inl (cc))
       | inr (inr h) ↦ inr (inr (inr (sym e, h)))
-    ]))
+    ]
+    | inr (inr h) ↦ inr (inr (inl h))
+  ]
+
+int_irreflexive : (a : ℤ) → a <ℤ a → ⊥
+int_irreflexive a h = omega (arith, ints, h)
+
+int_transitive : (a b c : ℤ) → a <ℤ b → b <ℤ c → a <ℤ c
+int_transitive a b c h k = omega (arith, ints, h, k)
+
+int_compare : (a b : ℤ) → (a <ℤ b) ⊎ ((a ≡ b) ⊎ (b <ℤ a))
+int_compare a b = by_lt_z a b (λ (lt : a <ℤ b). inl lt) (λ (le : b ≤ℤ a). by_lt_z b a (λ (gt : b <ℤ a). inr (inr gt)) (λ (ge : a ≤ℤ b). inr (inl (omega (arith, ints, le, ge)))))
+
+pub nat_irreflexive : (a : ℕ) → a < a → ⊥
+nat_irreflexive a h = omega (arith, h)
+
+pub nat_transitive : (a b c : ℕ) → a < b → b < c → a < c
+nat_transitive a b c h k = omega (arith, h, k)
+
+pub nat_compare : (a b : ℕ) → (a < b) ⊎ ((a ≡ b) ⊎ (b < a))
+nat_compare zero zero = inr (inl refl)
+nat_compare zero (suc b) = inl (omega arith)
+nat_compare (suc a) zero = inr (inr (omega arith))
+nat_compare (suc a) (suc b) = elim (nat_compare a b) [
+  | inl h ↦ inl (omega (arith, h))
+  | inr (inl e) ↦ inr (inl (ap suc e))
+  | inr (inr h) ↦ inr (inr (omega (arith, h)))
+]
+
+-- no vector is before itself
+pub lex_irreflexive : (x : Vector) → IsLexBefore x x → ⊥
+lex_irreflexive = lexless_irreflexive ◌<ℤ◌ int_irreflexive int_transitive int_compare
+
+pub lex_transitive : (x y z : Vector) → IsLexBefore x y → IsLexBefore y z → IsLexBefore x z
+lex_transitive = lexless_transitive ◌<ℤ◌ int_irreflexive int_transitive int_compare
+
+-- of two vectors of one width one is before the other, or they are the same
+pub lex_cases : (x y : Vector) → length x ≡ length y → IsLexBefore x y ⊎ ((x ≡ y) ⊎ IsLexBefore y x)
+lex_cases = lexless_cases ◌<ℤ◌ int_irreflexive int_transitive int_compare
+
+-- lists of places, as the simplices of a cover
+pub places_irreflexive : (x : List ℕ) → IsLexLess ◌<◌ x x → ⊥
+places_irreflexive = lexless_irreflexive ◌<◌ nat_irreflexive nat_transitive nat_compare
+
+pub places_transitive : (x y z : List ℕ) → IsLexLess ◌<◌ x y → IsLexLess ◌<◌ y z → IsLexLess ◌<◌ x z
+places_transitive = lexless_transitive ◌<◌ nat_irreflexive nat_transitive nat_compare
+
+pub places_cases : (x y : List ℕ) → length x ≡ length y → IsLexLess ◌<◌ x y ⊎ ((x ≡ y) ⊎ IsLexLess ◌<◌ y x)
+places_cases = lexless_cases ◌<◌ nat_irreflexive nat_transitive nat_compare
 
 -- the order of the element lists, in the same way
 pub stands_irreflexive : (grading : Option Vector) (x : Vector) → StandsBefore grading x x → ⊥

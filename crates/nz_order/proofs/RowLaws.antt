@@ -82,7 +82,7 @@ module _ (w : ℕ) (Lattice : Vector → Type 0) (lattice : IsLattice w Lattice)
   values_decided (r ∷ rows) x v = by_lt_z (dot r x) (dot r v)
       (λ (lt : dot r x <ℤ dot r v). inr (λ h. let k = h.0 in omega (arith, ints, lt, k)))
       (λ (le : dot r v ≤ℤ dot r x). elim (values_decided rows x v) [
-          inl h ↦ inl (le, h)
+        | inl h ↦ inl (le, h)
         | inr n ↦ inr (λ h. n h.1)
       ])
 
@@ -108,10 +108,10 @@ module _ (w : ℕ) (Lattice : Vector → Type 0) (lattice : IsLattice w Lattice)
   pub stage_degree : (rows : List Vector) → Each (HasWidth w) rows → IsPositive (IsInStage Lattice rows) → IsDegreeOf (IsInStage Lattice rows) (total w rows)
   stage_degree rows wide positive x m n = by_lt_z (dot (total w rows) x) (pos 1)
       (λ (lt : dot (total w rows) x <ℤ pos 1).
-        let v = dot_comm (total w rows) x ∙ dot-total x w rows wide in
-        absurd (positive x (record {
-          nonzero = n;
-          forward = m;
-          backward = record { in_lattice = lattice_opposite x m.in_lattice; at_least = zero_total rows x m.at_least (omega (arith, ints, lt, v)) };
-        })))
+      let v = dot_comm (total w rows) x ∙ dot-total x w rows wide in
+      absurd (positive x (record {
+        nonzero = n;
+        forward = m;
+        backward = record { in_lattice = lattice_opposite x m.in_lattice; at_least = zero_total rows x m.at_least (omega (arith, ints, lt, v)) };
+      })))
       (λ (ge : pos 1 ≤ℤ dot (total w rows) x). ge)

@@ -5,7 +5,8 @@ use Rattle.std.specs.List.Sorted.{IsPermutation, IsSortedBy}
 use Rattle.std.proofs.lemmas.List.Sorted.{Contains-permutation, length_permutation, IsPermutation-sym}
 use Rattle.nz_spec.specs.Vectors.{Vector, HasWidth}
 use Rattle.nz_spec.specs.Order.{StandsBefore, Pairwise, IsListOf, ListsOnce, HasNumber, MoreThan}
-use Rattle.nz_spec.proofs.ListLaws.{contains_here, contains_there, contains_cases, Each-contains, Each-from_contains, Each-weaker, different_within}
+use Rattle.nz_spec.proofs.ListLaws.{contains_here, contains_there, contains_none, contains_cases, Each-contains, Each-from_contains, Each-weaker, different_within}
+use Rattle.nz_order.specs.Picks.{Picks, none, keep, skip}
 use Rattle.nz_order.proofs.OrderLaws.{stands_transitive, stands_cases, Pairwise-push}
 
 pub Pairwise-weaker : {A : Type 0} (R S : A → A → Type 0) → ((x y : A) → R x y → S x y) → (xs : List A) → Pairwise R xs → Pairwise S xs
@@ -48,13 +49,13 @@ different_from : {A : Type 0} (xs before after : List A) → Pairwise ◌≢◌ 
 different_from xs before [] d all size = tt
 different_from xs before (y ∷ after) d all size = (
   Each-from_contains (λ z. y ≢ z) after (λ z c e.
-    let h = Each-weaker (Contains (before ++ y ∷ after)) (Contains (before ++ after)) (λ v k. contains_without before after y v k (λ f. subst (Contains after) (sym e ∙ f) c)) xs all in
-    let k = different_within xs (before ++ after) d h in
-    let l = length_without before after y in
-    omega (arith, k, l, size)),
+      let h = Each-weaker (Contains (before ++ y ∷ after)) (Contains (before ++ after)) (λ v k. contains_without before after y v k (λ f. subst (Contains after) (sym e ∙ f) c)) xs all in
+      let k = different_within xs (before ++ after) d h in
+      let l = length_without before after y in
+      omega (arith, k, l, size)),
   different_from xs (before ++ y ∷ []) after d
-    (subst (λ (ls : List _). Each (Contains ls) xs) (sym (append_assoc before (y ∷ []) after)) all)
-    (subst (λ (ls : List _). length ls ≤ length xs) (sym (append_assoc before (y ∷ []) after)) size),
+      (subst (λ (ls : List _). Each (Contains ls) xs) (sym (append_assoc before (y ∷ []) after)) all)
+      (subst (λ (ls : List _). length ls ≤ length xs) (sym (append_assoc before (y ∷ []) after)) size),
 )
 
 -- a list no longer than one without repeats, and with all its elements, has no repeats
@@ -136,13 +137,13 @@ pub sorted_list : (w : ℕ) (grading : Option Vector) (before : Vector → Vecto
 sorted_list w grading before decides P wide xs ys p perm s =
     let q = permuted_once P xs ys p perm in
     let step : (k : ℕ) (d : Vector) → suc k < length ys → StandsBefore grading (get_or ys k d) (get_or ys (suc k) d) = λ k d l.
-        let i : HasWidth w (get_or ys k d) = wide _ (Each-at P ys k d q.only (omega (arith, l))) in
-        let j : HasWidth w (get_or ys (suc k) d) = wide _ (Each-at P ys (suc k) d q.only l) in
-        elim (stands_cases grading (get_or ys k d) (get_or ys (suc k) d) (i ∙ sym j)) [
-          | inl b ↦ b
-          | inr (inl e) ↦ absurd (different_at ys k d q.in_order l e)
-          | inr (inr b) ↦ absurd (decides (get_or ys (suc k) d) (get_or ys k d) j i (at_place k d l) b)
-        ] in
+    let i : HasWidth w (get_or ys k d) = wide _ (Each-at P ys k d q.only (omega (arith, l))) in
+    let j : HasWidth w (get_or ys (suc k) d) = wide _ (Each-at P ys (suc k) d q.only l) in
+    elim (stands_cases grading (get_or ys k d) (get_or ys (suc k) d) (i ∙ sym j)) [
+      | inl b ↦ b
+      | inr (inl e) ↦ absurd (different_at ys k d q.in_order l e)
+      | inr (inr b) ↦ absurd (decides (get_or ys (suc k) d) (get_or ys k d) j i (at_place k d l) b)
+    ] in
     record { in_order = Pairwise-neighbours (StandsBefore grading) (stands_transitive grading) ys step; only = q.only; each = q.each }
   where
     Each-at : (P : Vector → Type 0) (ys : List Vector) (k : ℕ) (d : Vector) → Each P ys → k < length ys → P (get_or ys k d)
@@ -157,3 +158,49 @@ sorted_list w grading before decides P wide xs ys p perm s =
 
     at_place : (k : ℕ) (d : Vector) → suc k < length ys → before (get_or ys (suc k) d) (get_or ys k d) ≡ false
     at_place k d l = subst (λ (n : ℕ). before (get_or ys n d) (get_or ys k d) ≡ false) (add-one k) (s k d (omega arith) (omega (arith, l)))
+
+-- an element of the picked list is one of the whole, and has Q
+pub Picks-from : {A : Type 0} {Q : A → Type 0} {xs ys : List A} → Picks Q xs ys → (z : A) → Contains ys z → Contains xs z × Q z
+Picks-from none z c = absurd (contains_none z c)
+Picks-from {Q = Q} (keep {x = x} {xs = xs} {ys = ys} q p) z c = elim (contains_cases x ys z c) [
+  | inl e ↦ subst (λ (v : _). Contains (x ∷ xs) v × Q v) e (contains_here x xs, q)
+  | inr d ↦ (let r = Picks-from p z d in (contains_there x z xs r.0, r.1))
+]
+Picks-from (skip {x = x} {xs = xs} n p) z c = let r = Picks-from p z c in (contains_there x z xs r.0, r.1)
+
+-- and one of the whole that has Q is picked
+pub Picks-to : {A : Type 0} {Q : A → Type 0} {xs ys : List A} → Picks Q xs ys → (z : A) → Contains xs z → Q z → Contains ys z
+Picks-to none z c h = absurd (contains_none z c)
+Picks-to (keep {x = x} {xs = xs} {ys = ys} q p) z c h = elim (contains_cases x xs z c) [
+  | inl e ↦ subst (Contains (x ∷ ys)) e (contains_here x ys)
+  | inr d ↦ contains_there x z ys (Picks-to p z d h)
+]
+Picks-to {Q = Q} (skip {x = x} {xs = xs} n p) z c h = elim (contains_cases x xs z c) [
+  | inl e ↦ absurd (n (subst Q (sym e) h))
+  | inr d ↦ Picks-to p z d h
+]
+
+-- what is picked stands in the same order
+pub Picks-order : {A : Type 0} {Q : A → Type 0} (B : A → A → Type 0) {xs ys : List A} → Picks Q xs ys → Pairwise B xs → Pairwise B ys
+Picks-order B none h = tt
+Picks-order B (keep {x = x} {xs = xs} {ys = ys} q p) h = (Each-from_contains (B x) ys (λ z c. Each-contains (B x) xs z h.0 (Picks-from p z c).0), Picks-order B p h.1)
+Picks-order B (skip n p) h = Picks-order B p h.1
+
+-- what is picked from the list of a set is the list of those that have Q as well
+pub Picks-list : {A : Type 0} (B : A → A → Type 0) (P Q : A → Type 0) (xs ys : List A) → IsListOf B P xs → Picks Q xs ys → IsListOf B (λ x. P x × Q x) ys
+Picks-list B P Q xs ys l p = record {
+  in_order = Picks-order B p l.in_order;
+  only = Each-from_contains (λ x. P x × Q x) ys (λ z c. let r = Picks-from p z c in (Each-contains P xs z l.only r.0, r.1));
+  each = λ x h. Picks-to p x (l.each x h.0) h.1;
+}
+
+-- one element further on: it is picked, or left out
+pub Picks-keep : {A : Type 0} {Q : A → Type 0} {xs ys : List A} (x : A) → Picks Q xs ys → Q x → Picks Q (xs ++ x ∷ []) (ys ++ x ∷ [])
+Picks-keep x none h = keep h none
+Picks-keep x (keep q p) h = keep q (Picks-keep x p h)
+Picks-keep x (skip n p) h = skip n (Picks-keep x p h)
+
+pub Picks-skip : {A : Type 0} {Q : A → Type 0} {xs ys : List A} (x : A) → Picks Q xs ys → ¬ Q x → Picks Q (xs ++ x ∷ []) ys
+Picks-skip x none h = skip h none
+Picks-skip x (keep q p) h = keep q (Picks-skip x p h)
+Picks-skip x (skip n p) h = skip n (Picks-skip x p h)

@@ -87,7 +87,7 @@ IsTotalOf-counts w (v ∷ vs) (n ∷ counts) h =
         let more = again n t in
         let s : pos (suc n) ≡ pos 1 +ℤ pos n = omega (arith, ints) in
         let e : plus (scaled (pos (suc n)) v) r ≡ plus v (plus (scaled (pos n) v) r) =
-            ap (λ k. plus (scaled k v) r) s ∙ ap (λ u. plus u r) (add-scaled (pos 1) (pos n) v ∙ ap (λ u. plus u (scaled (pos n) v)) (one-scaled v)) ∙ plus_assoc v (scaled (pos n) v) r in
+        ap (λ k. plus (scaled k v) r) s ∙ ap (λ u. plus u r) (add-scaled (pos 1) (pos n) v ∙ ap (λ u. plus u (scaled (pos n) v)) (one-scaled v)) ∙ plus_assoc v (scaled (pos n) v) r in
         record { terms = v ∷ more.terms; each = (contains_here v vs, more.each); same = ap (plus v) more.same ∙ sym e }
 
 -- a nonzero sum has a nonzero term, and what is left is the sum of the others
@@ -107,6 +107,6 @@ nonzero_term w P wide x n p = subst (HasTerm w P) p.same (of_terms p.terms p.eac
     of_terms (t ∷ ts) h n = elim (zero_or_not t) [
       | inr nz ↦ record { term = t; rest = total w ts; has = h.0; nonzero = nz; others = record { terms = ts; each = h.1; same = refl }; same = refl }
       | inl z ↦ (let e : plus t (total w ts) ≡ total w ts =
-              ap (λ u. plus u (total w ts)) (zero_vector_of t z ∙ ap zero_vector (wide t h.0)) ∙ zero-plus (total w ts) w (length-total w ts (Each-weaker P (HasWidth w) wide ts h.1)) in
+          ap (λ u. plus u (total w ts)) (zero_vector_of t z ∙ ap zero_vector (wide t h.0)) ∙ zero-plus (total w ts) w (length-total w ts (Each-weaker P (HasWidth w) wide ts h.1)) in
           subst (HasTerm w P) (sym e) (of_terms ts h.1 (λ y. n (subst IsZero (sym e) y))))
     ]

@@ -1,1 +1,5 @@
 pub mod WordsLemmas
+pub mod Composing
+pub mod Pieces
+pub mod Firsts
+pub mod BuiltRows

@@ -37,14 +37,18 @@ pub record IsReadAs (input : Text) (file : FileData) : Type 0 where
   pub read : IsTextOf input file
   pub built : IsBuilt file
 
--- the input is a text of a file, and the output the text of the list of exactly the irreducible elements of the monoid that it defines, each once, in order
-pub record IsSolved (input output : Text) : Type 0 where
-  pub file : FileData
+-- the output is the text of the list of exactly the irreducible elements of the monoid that the file defines, each once, in order
+pub record IsAnswered (file : FileData) (output : Text) : Type 0 where
   pub list : List Vector
-  pub read : IsReadAs input file
   pub not_crowded : ¬ IsCrowded (system_of file)
   pub basis : IsHilbertBasis (system_of file) list
   pub same : output ≡ text_of (record { amb = file.amb; level = false; hilbert = Some list })
+
+-- the input is a text of a file, and the output the text of the list of exactly the irreducible elements of the monoid that it defines
+pub record IsSolved (input output : Text) : Type 0 where
+  pub file : FileData
+  pub read : IsReadAs input file
+  pub answered : IsAnswered file output
 
 -- the input is the cause of the status
 abbrev pub IsCause : Text → Status → Type 0
@@ -58,6 +62,11 @@ IsCause input Absent = ⊥
 IsCause input ReadFault = ⊥
 IsCause input WriteFault = ⊥
 IsCause input NoMemory = ⊥
+
+-- the input is the cause of the status, or memory ran out
+abbrev pub IsCauseOrMemory : Text → Status → Type 0
+IsCauseOrMemory input NoMemory = Unit {0}
+IsCauseOrMemory input status = IsCause input status
 
 -- what the status says of the input and of the files before and after it was solved; the name is that of the output
 abbrev pub Leaves : Text → Text → Status → Files → Files → Type 0

@@ -1,10 +1,11 @@
 //! What the program solves today.
-ghost use Rattle.std.specs.Prelude.{◌≡◌, ◌↔◌, IsTrue, MatchOption, ℕ};
+ghost use Rattle.std.specs.Prelude.{◌≡◌, ◌↔◌, ◌<◌, IsTrue, MatchOption, length};
 ghost use Rattle.std.specs.List.{AllByRecursion as Each};
 ghost use Rattle.nz_input.specs.Files.{ItemData, IsItem, IsFile};
 ghost use Rattle.nz_run.specs.Built.{HasModulus, IsBuiltItem, IsBuiltGoal, IsBuilt, IsFirstNot, IsFirstUnbuilt};
 
 use nz_input::{File, Goal, Goals, Item, Items, Kind};
+use nz_vec::{Row, Rows};
 
 /// The word of an item or a goal.
 #[derive(Clone, Copy, Debug, PartialEq, Eq, Drop)]
@@ -24,5 +25,95 @@ impl Keyword {
             Keyword::Item(kind) => kind.word(),
             Keyword::Goal(goal) => goal.word(),
         }
+    }
+}
+
+// The last entry of a congruence is its modulus.
+fn has_modulus(row: &Row<i64>) -> bool
+    requires { 0 < length row.now }
+    ensures { IsTrue result ↔ HasModulus row.now }
+{
+    row.at(row.len() - 1) >= 1
+}
+
+fn has_moduli(rows: &Rows<i64>) -> bool
+    requires { Each (λ r. 0 < length r) rows.now }
+    ensures { IsTrue result ↔ Each HasModulus rows.now }
+{
+    for place in 0..rows.len() {
+        if !has_modulus(rows.at(place)) {
+            return false;
+        }
+    }
+    true
+}
+
+fn is_congruences(kind: Kind) -> bool
+    ensures { IsTrue result ↔ (kind ≡ Kind.Congruences) }
+{
+    match kind {
+        Kind::Congruences => true,
+        _ => false,
+    }
+}
+
+fn is_built_item(item: &Item) -> bool
+    requires { Each (λ r. 0 < length r) item.now.rows }
+    ensures { IsTrue result ↔ IsBuiltItem item.now }
+{
+    if is_congruences(item.kind) {
+        has_moduli(&item.rows)
+    } else {
+        false
+    }
+}
+
+// The kind of the first item that is not built.
+fn unbuilt_item(items: &Items) -> Option<Kind>
+    requires { Each (λ item. Each (λ r. 0 < length r) item.rows) items.now }
+    ensures { MatchOption result (Each IsBuiltItem items.now) (λ kind. (item : ItemData) × IsFirstNot IsBuiltItem items.now item × (item.kind ≡ kind)) }
+{
+    for place in 0..items.len() {
+        let item = items.at(place);
+        if !is_built_item(item) {
+            return Some(item.kind);
+        }
+    }
+    None
+}
+
+fn is_hilbert_basis(goal: Goal) -> bool
+    ensures { IsTrue result ↔ IsBuiltGoal goal }
+{
+    match goal {
+        Goal::HilbertBasis => true,
+        _ => false,
+    }
+}
+
+// The first goal that is not built.
+fn unbuilt_goal(goals: &Goals) -> Option<Goal>
+    ensures { MatchOption result (Each IsBuiltGoal goals.now) (IsFirstNot IsBuiltGoal goals.now) }
+{
+    for place in 0..goals.len() {
+        let goal = goals.at(place);
+        if !is_hilbert_basis(goal) {
+            return Some(goal);
+        }
+    }
+    None
+}
+
+/// The first word of the file that names what is not built: of its items, and where all are built, of its goals.
+pub fn first_unbuilt(file: &File) -> Option<Keyword>
+    ensures { MatchOption result (IsBuilt file.now) (IsFirstUnbuilt file.now) }
+{
+    file.kept();
+    match unbuilt_item(&file.items) {
+        Some(kind) => Some(Keyword::Item(kind)),
+        None => match unbuilt_goal(&file.goals) {
+            Some(goal) => Some(Keyword::Goal(goal)),
+            None => None,
+        },
     }
 }

@@ -9,6 +9,8 @@ mod built;
 mod solving;
 mod status;
 mod status_lines;
+#[cfg(test)]
+mod tests;
 mod top;
 mod words;
 

@@ -56,7 +56,7 @@ fn put_text<S: Sink>(console: &mut S, label: &[u8], text: &[u8]) -> bool
     ensures later { S.faults console.old ≤ S.faults console.new }
 {
     if put_two(console, label, text) {
-        put_all(console, b"\n".as_slice())
+        put_all(console, b"\n")
     } else {
         false
     }
@@ -68,13 +68,13 @@ fn put_place<S: Sink>(console: &mut S, row: u64, column: u64, fault: Fault) -> b
     ensures cause { IsFalse result → Rose (S.faults console.old) (S.faults console.new) }
     ensures later { S.faults console.old ≤ S.faults console.new }
 {
-    if !put_number(console, b"line ".as_slice(), row) {
+    if !put_number(console, b"line ", row) {
         return false;
     }
-    if !put_number(console, b" column ".as_slice(), column) {
+    if !put_number(console, b" column ", column) {
         return false;
     }
-    put_text(console, b": ".as_slice(), name_of(fault))
+    put_text(console, b": ", name_of(fault))
 }
 
 /// Writes the line of the status. False only where the console had a fault; some first bytes of the line were written then.
@@ -85,14 +85,14 @@ pub fn put_status<S: Sink>(console: &mut S, status: Status) -> bool
 {
     match status {
         Status::Grammar { line, column, fault } => put_place(console, line, column, fault),
-        Status::NotBuilt(keyword) => put_text(console, b"not built: ".as_slice(), keyword.word()),
-        Status::Done => put_all(console, b"done\n".as_slice()),
-        Status::Usage => put_all(console, b"usage: nmz [options] PROJECT\n".as_slice()),
-        Status::Absent => put_all(console, b"no input file\n".as_slice()),
-        Status::ReadFault => put_all(console, b"read fault\n".as_slice()),
-        Status::TooLong => put_all(console, b"input too long\n".as_slice()),
-        Status::Crowded => put_all(console, b"crowded\n".as_slice()),
-        Status::WriteFault => put_all(console, b"write fault\n".as_slice()),
-        Status::NoMemory => put_all(console, b"no memory\n".as_slice()),
+        Status::NotBuilt(keyword) => put_text(console, b"not built: ", keyword.word()),
+        Status::Done => put_all(console, b"done\n"),
+        Status::Usage => put_all(console, b"usage: nmz [options] PROJECT\n"),
+        Status::Absent => put_all(console, b"no input file\n"),
+        Status::ReadFault => put_all(console, b"read fault\n"),
+        Status::TooLong => put_all(console, b"input too long\n"),
+        Status::Crowded => put_all(console, b"crowded\n"),
+        Status::WriteFault => put_all(console, b"write fault\n"),
+        Status::NoMemory => put_all(console, b"no memory\n"),
     }
 }

@@ -24,35 +24,35 @@ pub zero_on_span : (f : Vector) (w : ℕ) (G : List Vector) (x : Vector) → Eac
 zero_on_span f w G x h k i = zero_product i.multiple (dot f x) (λ e. let p = i.positive in omega (arith, ints, p, e))
     (sym (dot-scaled f i.multiple x) ∙ ap (dot f) (sym i.same) ∙ dot-combination f w i.factors G h ∙ values_zero f i.factors G k)
 
-entry_past : (f : Vector) (j : ℕ) → length f ≤ j → entry f j ≡ pos 0
+pub entry_past : (f : Vector) (j : ℕ) → length f ≤ j → entry f j ≡ pos 0
 entry_past [] zero h = refl
 entry_past [] (suc j) h = refl
 entry_past (a ∷ f) zero h = absurd (omega (arith, h))
 entry_past (a ∷ f) (suc j) h = entry_past f j (omega arith)
 
-dot-no_entries : (f x : Vector) → ((i : ℕ) → entry f i ≡ pos 0) → dot f x ≡ pos 0
+pub dot-no_entries : (f x : Vector) → ((i : ℕ) → entry f i ≡ pos 0) → dot f x ≡ pos 0
 dot-no_entries [] x h = refl
 dot-no_entries (a ∷ f) [] h = refl
 dot-no_entries (a ∷ f) (b ∷ x) h = omega (arith, ints, ap (λ t. t *ℤ b) (h 0), zero-*ℤ b, dot-no_entries f x (λ i. h (suc i)))
 
 -- where f has no entry after column j and x has none before it, the value is the product of the entries there
-dot_at_lead : (f x : Vector) (j : ℕ) → LeadsAt j x → ((i : ℕ) → j < i → entry f i ≡ pos 0) → dot f x ≡ entry f j *ℤ entry x j
+pub dot_at_lead : (f x : Vector) (j : ℕ) → LeadsAt j x → ((i : ℕ) → j < i → entry f i ≡ pos 0) → dot f x ≡ entry f j *ℤ entry x j
 dot_at_lead f [] j h k = absurd h
 dot_at_lead [] (b ∷ x) j h k = sym (ap (λ t. t *ℤ entry (b ∷ x) j) (entry_past [] j (omega arith)) ∙ zero-*ℤ (entry (b ∷ x) j))
 dot_at_lead (a ∷ f) (b ∷ x) zero h k = omega (arith, ints, dot-no_entries f x (λ i. k (suc i) (omega arith)))
 dot_at_lead (a ∷ f) (b ∷ x) (suc j) h k = omega (arith, ints, ap (λ t. a *ℤ t) h.0, *ℤ-zero a, dot_at_lead f x j h.1 (λ i l. k (suc i) (omega arith)))
 
-entry_at_lead : (x : Vector) (j : ℕ) → LeadsAt j x → entry x j ≢ pos 0
+pub entry_at_lead : (x : Vector) (j : ℕ) → LeadsAt j x → entry x j ≢ pos 0
 entry_at_lead [] j h e = h
 entry_at_lead (a ∷ x) zero h e = h e
 entry_at_lead (a ∷ x) (suc j) h e = entry_at_lead x j h.1 e
 
-within_or_past : (w j : ℕ) → (j < w) ⊎ (w ≤ j)
+pub within_or_past : (w j : ℕ) → (j < w) ⊎ (w ≤ j)
 within_or_past zero j = inr (omega arith)
 within_or_past (suc w) zero = inl (omega arith)
 within_or_past (suc w) (suc j) = elim (within_or_past w j) [ inl h ↦ inl (omega (arith, h)) | inr h ↦ inr (omega (arith, h)) ]
 
-zero_of_entries : (x : Vector) → ((j : ℕ) → entry x j ≡ pos 0) → IsZero x
+pub zero_of_entries : (x : Vector) → ((j : ℕ) → entry x j ≡ pos 0) → IsZero x
 zero_of_entries [] h = tt
 zero_of_entries (a ∷ x) h = (h 0, zero_of_entries x (λ j. h (suc j)))
 
@@ -83,13 +83,13 @@ module _ (w : ℕ) (G : List Vector) (wide : Each (HasWidth w) G) (f : Vector) (
   pub zero_outside_keys : IsZero f
   zero_outside_keys = zero_of_entries f (λ j. no_entry_from w j (omega arith))
 
-entry-scaled : (k : ℤ) (x : Vector) (j : ℕ) → entry (scaled k x) j ≡ k *ℤ entry x j
+pub entry-scaled : (k : ℤ) (x : Vector) (j : ℕ) → entry (scaled k x) j ≡ k *ℤ entry x j
 entry-scaled k [] zero = sym (*ℤ-zero k)
 entry-scaled k [] (suc j) = sym (*ℤ-zero k)
 entry-scaled k (a ∷ x) zero = refl
 entry-scaled k (a ∷ x) (suc j) = entry-scaled k x j
 
-entry-minus : (x y : Vector) (j : ℕ) → length x ≡ length y → entry (minus x y) j ≡ entry x j -ℤ entry y j
+pub entry-minus : (x y : Vector) (j : ℕ) → length x ≡ length y → entry (minus x y) j ≡ entry x j -ℤ entry y j
 entry-minus [] [] zero h = refl
 entry-minus [] [] (suc j) h = refl
 entry-minus [] (b ∷ y) j h = absurd (omega arith)
@@ -97,7 +97,7 @@ entry-minus (a ∷ x) [] j h = absurd (omega arith)
 entry-minus (a ∷ x) (b ∷ y) zero h = refl
 entry-minus (a ∷ x) (b ∷ y) (suc j) h = entry-minus x y j (omega arith)
 
-column_cases : (i j : ℕ) → (i ≡ j) ⊎ (i ≢ j)
+pub column_cases : (i j : ℕ) → (i ≡ j) ⊎ (i ≢ j)
 column_cases zero zero = inl refl
 column_cases zero (suc j) = inr (λ e. omega (arith, e))
 column_cases (suc i) zero = inr (λ e. omega (arith, e))

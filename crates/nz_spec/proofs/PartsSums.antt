@@ -16,7 +16,7 @@ use Rattle.nz_spec.proofs.PartsLaws.{Each-at}
 use Rattle.nz_spec.proofs.MemberLaws.{IsMember-plus, IsMember-zero}
 use Rattle.nz_spec.proofs.LevelLaws.{level_of-plus, level_of-member}
 
-length-one_more : (k : ℕ) (ns : List ℕ) → length (one_more k ns) ≡ length ns
+pub length-one_more : (k : ℕ) (ns : List ℕ) → length (one_more k ns) ≡ length ns
 length-one_more k [] = refl
 length-one_more zero (n ∷ ns) = refl
 length-one_more (suc k) (n ∷ ns) = ap suc (length-one_more k ns)
@@ -29,13 +29,13 @@ pub length-counts : {Member : Vector → Type 0} {elements : List Vector} {x : V
 length-counts {elements = elements} (leaves none) = length-replicate (length elements) zero
 length-counts (takes {counts = ns} before after e whole none can t) = length-one_more (length before) ns ∙ length-counts t
 
-one_time_more : (n : ℕ) (e : Vector) → scaled (pos (suc n)) e ≡ plus e (scaled (pos n) e)
+pub one_time_more : (n : ℕ) (e : Vector) → scaled (pos (suc n)) e ≡ plus e (scaled (pos n) e)
 one_time_more n e =
     let s : pos (suc n) ≡ pos 1 +ℤ pos n = omega (arith, ints) in
     ap (λ k. scaled k e) s ∙ add-scaled (pos 1) (pos n) e ∙ ap (λ v. plus v (scaled (pos n) e)) (one-scaled e)
 
 -- a count with one more adds its vector to the sum
-combination-one_more : (w : ℕ) (before after : List Vector) (e : Vector) (ns : List ℕ) → length ns ≡ length (before ++ e ∷ after) → combination w (map pos (one_more (length before) ns)) (before ++ e ∷ after) ≡ plus e (combination w (map pos ns) (before ++ e ∷ after))
+pub combination-one_more : (w : ℕ) (before after : List Vector) (e : Vector) (ns : List ℕ) → length ns ≡ length (before ++ e ∷ after) → combination w (map pos (one_more (length before) ns)) (before ++ e ∷ after) ≡ plus e (combination w (map pos ns) (before ++ e ∷ after))
 combination-one_more w [] after e [] l = absurd (omega (arith, l))
 combination-one_more w [] after e (n ∷ ns) l =
     ap (λ v. plus v (combination w (map pos ns) after)) (one_time_more n e) ∙ plus_assoc e (scaled (pos n) e) (combination w (map pos ns) after)
@@ -71,7 +71,7 @@ pub TakesApart-none : {Member : Vector → Type 0} {elements : List Vector} {x :
 TakesApart-none (leaves none) = none
 TakesApart-none (takes before after e whole none can t) = TakesApart-none t
 
-minus-plus_right : (u v e : Vector) → length u ≡ length e → length v ≡ length u → plus (minus u e) v ≡ minus (plus u v) e
+pub minus-plus_right : (u v e : Vector) → length u ≡ length e → length v ≡ length u → plus (minus u e) v ≡ minus (plus u v) e
 minus-plus_right [] v e l k = refl
 minus-plus_right (a ∷ u) [] e l k = absurd (omega (arith, k))
 minus-plus_right (a ∷ u) (b ∷ v) [] l k = absurd (omega (arith, l))
@@ -79,7 +79,7 @@ minus-plus_right (a ∷ u) (b ∷ v) (c ∷ e) l k =
     let f : (a -ℤ c) +ℤ b ≡ (a +ℤ b) -ℤ c = omega (arith, ints) in
     let t = minus-plus_right u v e (omega (arith, l)) (omega (arith, k)) in cc
 
-minus-self : (x : Vector) → minus x x ≡ zero_vector (length x)
+pub minus-self : (x : Vector) → minus x x ≡ zero_vector (length x)
 minus-self [] = refl
 minus-self (a ∷ x) =
     let f : a -ℤ a ≡ pos 0 = omega (arith, ints) in
@@ -113,7 +113,7 @@ module _ (Member : Vector → Type 0) (closed : IsClosed Member) (w : ℕ) (wide
       bounded (pos n) f = f n (omega (arith, ints))
       bounded (negsuc n) f = f 0 (omega (arith, ints))
 
-plus-zero : (x z : Vector) → length x ≡ length z → IsZero z → plus x z ≡ x
+pub plus-zero : (x z : Vector) → length x ≡ length z → IsZero z → plus x z ≡ x
 plus-zero [] z l h = refl
 plus-zero (a ∷ x) [] l h = absurd (omega (arith, l))
 plus-zero (a ∷ x) (b ∷ z) l h =

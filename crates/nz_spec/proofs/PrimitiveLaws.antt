@@ -40,7 +40,7 @@ one_of_divisor d h (k, e) = elim (none_or_more (k -ℤ pos 1)) [
   | inr s ↦ (let r = mul-nonneg (pos 0 -ℤ k) d (omega (arith, ints, s)) (omega (arith, ints, h)) in absurd (omega (arith, ints, r, e, sub-mul (pos 0) k d, zero-*ℤ d)))
 ]
 
-each_multiple : (q : ℤ) (x : Vector) → Each (IsMultipleOf q) (scaled q x)
+pub each_multiple : (q : ℤ) (x : Vector) → Each (IsMultipleOf q) (scaled q x)
 each_multiple q [] = tt
 each_multiple q (a ∷ x) = ((a, *ℤ_comm q a), each_multiple q x)
 
@@ -61,7 +61,7 @@ step_vector a q r s e (b ∷ z) (c ∷ y) f =
     let k = step_entry a q r s b c e g in
     let t = step_vector a q r s e z y h in cc
 
-length_same : (a r : ℤ) (z y : Vector) → scaled a z ≡ scaled r y → length z ≡ length y
+pub length_same : (a r : ℤ) (z y : Vector) → scaled a z ≡ scaled r y → length z ≡ length y
 length_same a r [] [] e = refl
 length_same a r [] (c ∷ y) e = absurd cc
 length_same a r (b ∷ z) [] e = absurd cc
@@ -103,13 +103,13 @@ module _ (r a : ℕ) (z y : Vector) (one : 1 ≤ r) (less : r < a) (e : scaled (
   by_remainder q (suc s) d k none = none (suc s) (minus y (scaled (pos q) z)) k (omega arith) (step_vector (pos a) (pos q) (pos r) (pos (suc s)) (ratio q (suc s) d) z y e)
 
 -- a primitive vector y is no multiple a / r of a whole vector where r is below a
-none_shorter : (fuel r a : ℕ) (z y : Vector) → r < fuel → 1 ≤ r → r < a → scaled (pos a) z ≡ scaled (pos r) y → IsPrimitive y → ⊥
+pub none_shorter : (fuel r a : ℕ) (z y : Vector) → r < fuel → 1 ≤ r → r < a → scaled (pos a) z ≡ scaled (pos r) y → IsPrimitive y → ⊥
 none_shorter zero r a z y f one less e p = omega arith
 none_shorter (suc fuel) r a z y f one less e p =
     by_remainder r a z y one less e p (a / r) (a % r) (sym (div-add-mod' a r)) (mod-lt a (omega arith))
     (λ s z' k h g. none_shorter fuel s a z' y (omega arith) h (omega arith) g p)
 
-order_cases : (m n : ℕ) → (m < n) ⊎ ((m ≡ n) ⊎ (n < m))
+pub order_cases : (m n : ℕ) → (m < n) ⊎ ((m ≡ n) ⊎ (n < m))
 order_cases zero zero = inr (inl refl)
 order_cases zero (suc n) = inl (omega arith)
 order_cases (suc m) zero = inr (inr (omega arith))

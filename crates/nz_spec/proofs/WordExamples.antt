@@ -1,6 +1,7 @@
 -- Worked examples of single words: the vector of a line, dual forms, floor sums, vertices, and the first element.
 use Rattle.std.proofs.Common.{◌≡◌, ◌≢◌, inl, inr, [], ◌∷◌, ℤ, pos, negsuc, ◌+ℤ◌, ◌-ℤ◌, ◌*ℤ◌, ◌≤ℤ◌, ◌<ℤ◌, Some, None, refl, sym, ap, ap₂, ◌∙◌, subst, arith, false}
 use Rattle.std.proofs.lemmas.Int.{ints}
+use Rattle.std.specs.List.{AllZip}
 use Rattle.nz_spec.specs.Vectors.{Vector, dot, plus, scaled, unit_vectors, IsZero, IsNonzero}
 use Rattle.nz_spec.specs.Order.{StandsBefore}
 use Rattle.nz_spec.specs.Forms.{IsDualForm, IsNormalForm}
@@ -63,19 +64,38 @@ left_normal = record {
   kind = inl (left, left_dual);
 }
 
--- (1, 0) is (-1/5) (1, 3) + (3/5) (2, 1); with the floors -1 and 0 the first sum is (-1, -3)
-pub wedge_floor_sum : IsFloorSum 2 wedge (negsuc 0 ∷ negsuc 2 ∷ [])
-wedge_floor_sum = record {
-  unit = pos 1 ∷ pos 0 ∷ [];
-  of_units = contains_here (pos 1 ∷ pos 0 ∷ []) ((pos 0 ∷ pos 1 ∷ []) ∷ []);
+wedge_floors : AllZip (IsFloor (pos 5)) (pos 2 ∷ negsuc 0 ∷ []) (pos 0 ∷ negsuc 0 ∷ [])
+wedge_floors = (record { at_most = omega (arith, ints); above = omega (arith, ints) }, (record { at_most = omega (arith, ints); above = omega (arith, ints) }, tt))
+
+-- (0, 1) is (2/5) (1, 3) + (-1/5) (2, 1); with the floors 0 and -1 the first sum is (0, 0)
+pub wedge_first_sum : IsFloorSum 2 wedge (pos 0 ∷ pos 0 ∷ [])
+wedge_first_sum = record {
+  unit = pos 0 ∷ pos 1 ∷ [];
+  of_units = contains_there (pos 1 ∷ pos 0 ∷ []) (pos 0 ∷ pos 1 ∷ []) ((pos 0 ∷ pos 1 ∷ []) ∷ []) (contains_here (pos 0 ∷ pos 1 ∷ []) []);
   multiple = pos 5;
-  factors = negsuc 0 ∷ pos 3 ∷ [];
-  floors = negsuc 0 ∷ pos 0 ∷ [];
+  factors = pos 2 ∷ negsuc 0 ∷ [];
+  floors = pos 0 ∷ negsuc 0 ∷ [];
   n = 1;
   positive = omega (arith, ints);
   one_each = refl;
   same = refl;
-  are_floors = (record { at_most = omega (arith, ints); above = omega (arith, ints) }, (record { at_most = omega (arith, ints); above = omega (arith, ints) }, tt));
+  are_floors = wedge_floors;
+  partial = refl;
+}
+
+-- and the second (-2, -1)
+pub wedge_second_sum : IsFloorSum 2 wedge (negsuc 1 ∷ negsuc 0 ∷ [])
+wedge_second_sum = record {
+  unit = pos 0 ∷ pos 1 ∷ [];
+  of_units = contains_there (pos 1 ∷ pos 0 ∷ []) (pos 0 ∷ pos 1 ∷ []) ((pos 0 ∷ pos 1 ∷ []) ∷ []) (contains_here (pos 0 ∷ pos 1 ∷ []) []);
+  multiple = pos 5;
+  factors = pos 2 ∷ negsuc 0 ∷ [];
+  floors = pos 0 ∷ negsuc 0 ∷ [];
+  n = 2;
+  positive = omega (arith, ints);
+  one_each = refl;
+  same = refl;
+  are_floors = wedge_floors;
   partial = refl;
 }
 

@@ -84,7 +84,7 @@ IsGap-blank b gap e g = record { parts = Space b ∷ g.parts; each = (e, g.each)
 pub IsGap-comment : (body gap : List ℕ) → NoClose body → IsGap gap → IsGap (47 ∷ 42 ∷ (body ++ 42 ∷ 47 ∷ gap))
 IsGap-comment body gap h g = record { parts = Comment body ∷ g.parts; each = (h, g.each); whole = rw (g.whole) (simp append_assoc) }
 
-NoClose-nil : NoClose []
+pub NoClose-nil : NoClose []
 NoClose-nil [] back e = absurd cc
 NoClose-nil (x ∷ front) back e = absurd cc
 

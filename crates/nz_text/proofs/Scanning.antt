@@ -1,5 +1,5 @@
 -- The pieces of a text, one more.
-use Rattle.std.proofs.Common.{◌≡◌, ℕ, List, [], ◌∷◌, ◌++◌, refl, sym, subst}
+use Rattle.std.proofs.Common.{ℕ, List, [], ◌∷◌, ◌++◌, refl, sym, subst}
 use Rattle.nz_text.specs.declared.found.Span.{Span}
 use Rattle.nz_text.specs.declared.found.Found.TheVariants.{Piece}
 use Rattle.nz_text.specs.Pieces.{IsStep, Leads}

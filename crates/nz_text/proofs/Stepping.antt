@@ -1,17 +1,16 @@
 -- What a step finds, in the words of the grammar.
-use Rattle.std.proofs.Common.{◌≡◌, ℕ, zero, suc, ◌+◌, ◌-◌, ◌<◌, ◌≤◌, List, [], ◌∷◌, ◌++◌, length, take, drop, get_or, refl, sym, ap, subst, ◌∙◌, append_assoc, arith, inl, inr}
+use Rattle.std.proofs.Common.{◌≡◌, ℕ, zero, suc, ◌+◌, ◌-◌, ◌<◌, ◌≤◌, List, [], ◌∷◌, ◌++◌, length, take, drop, get_or, refl, sym, ap, subst, ◌∙◌, arith, inl, inr}
 use Rattle.std.proofs.lemmas.List.{append-nil, length-append, length-drop, take_at, take-append-drop, drop-drop}
 use Rattle.std.proofs.lemmas.Bool.Decides.{eqb_tells}
 use Rattle.std.proofs.Math.Seq.{drop-cons}
-use Rattle.nz_text.specs.declared.pieces.Mode.TheVariants.{Outside, Opening, Inside}
-use Rattle.nz_text.specs.declared.pieces.Class.TheVariants.{Foreign}
+use Rattle.nz_text.specs.declared.pieces.Mode.TheVariants.{Outside, Inside}
 use Rattle.nz_text.specs.declared.found.Found.{Found}
 use Rattle.nz_text.specs.declared.found.Found.TheVariants.{Piece, End, Bad}
 use Rattle.nz_text.specs.declared.found.TextFault.TheVariants as text_fault
-use Rattle.nz_text.specs.Bytes.{class_of, NoClose, IsGap, IsSolid, IsOpenComment, IsHanging}
+use Rattle.nz_text.specs.Bytes.{NoClose, IsGap, IsSolid, IsOpenComment, IsHanging}
 use Rattle.nz_text.specs.Skip.{Skipped, Reaches, Opens, skip, Finds}
 use Rattle.nz_text.specs.Pieces.{IsStep}
-use Rattle.nz_text.proofs.Gaps.{says-skip, Says, IsPassed, IsClosed, skip-gap, skip-nil, skip-solid, skip-foreign, skip-begin}
+use Rattle.nz_text.proofs.Gaps.{says-skip, Says, IsPassed, skip-gap, skip-nil, skip-solid, skip-foreign, skip-begin}
 
 passed : (t tail : List ℕ) → skip Outside t ≡ Reaches tail → IsPassed t tail
 passed t tail e = (subst (λ (r : Skipped). Says Outside t r) e (says-skip t Outside)).0
@@ -65,7 +64,7 @@ open-opens [] h = absurd h
 open-opens (a ∷ []) h = rw h refl
 open-opens (a ∷ b ∷ body) h = rw (h.0, h.1) (skip-begin body ∙ open-inside body h.2)
 
-hanging-opens : (comment rest : List ℕ) → IsHanging comment rest → skip Outside (comment ++ rest) ≡ Opens rest
+pub hanging-opens : (comment rest : List ℕ) → IsHanging comment rest → skip Outside (comment ++ rest) ≡ Opens rest
 unfolding skip
 hanging-opens comment [] h = rw append-nil (open-opens comment h)
 hanging-opens comment (b ∷ rest) h = elim (eqb_tells b 42) [

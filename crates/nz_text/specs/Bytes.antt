@@ -17,10 +17,12 @@ pub data Part : Type 0 where
   Space : ℕ → Part
   Comment : List ℕ → Part
 
+-- its bytes
 abbrev pub part_bytes : Part → List ℕ
 part_bytes (Space b) = b ∷ []
 part_bytes (Comment body) = 47 ∷ 42 ∷ (body ++ 42 ∷ 47 ∷ [])
 
+-- a blank is one, and what is between the marks of a comment closes it nowhere
 abbrev pub IsPart : Part → Type 0
 IsPart (Space b) = class_of b ≡ Blank
 IsPart (Comment body) = NoClose body

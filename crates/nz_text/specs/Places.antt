@@ -1,5 +1,5 @@
 -- The line and the column of a place: those behind the bytes before it.
-use Rattle.std.specs.Prelude.{ℕ, ◌+◌, ◌==◌, if◌then◌else◌, List, [], ◌∷◌, take}
+use Rattle.std.specs.Prelude.{ℕ, ◌+◌, ◌==◌, if◌then◌else◌, [], ◌∷◌, take}
 use Rattle.nz_vec.specs.Texts.{Text}
 
 -- the line behind these bytes, from a line on: each end of line leads to the next

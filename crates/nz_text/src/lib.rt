@@ -6,6 +6,7 @@
 #![tactic(auto)]
 
 mod found;
+mod laws;
 mod pieces;
 mod places;
 mod scan;
@@ -14,6 +15,7 @@ mod spans;
 mod tests;
 
 pub use found::{Found, Span, TextFault, TextRefusal};
+pub use laws::steps_are_unique;
 pub use nz_vec::NoMemory;
 pub use pieces::{Class, sort_of, step};
 pub use places::place;

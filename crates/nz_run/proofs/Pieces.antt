@@ -1,0 +1,50 @@
+-- Pieces written one after another.
+use Rattle.std.proofs.Common.{◌≡◌, ℕ, zero, suc, ◌+◌, ◌<◌, ◌≤◌, List, [], ◌∷◌, ◌++◌, length, take, refl, sym, ap, ◌∙◌, subst, arith, append_assoc, Option, Some, None, Bool, true, false}
+use Rattle.std.proofs.lemmas.List.{take_all, take-append-le}
+use Rattle.std.proofs.Math.Seq.{take-append-add, take-append_seam}
+use Rattle.nz_vec.specs.Texts.{Text}
+use Rattle.nz_edge.specs.Folders.{BothTold}
+use Rattle.nz_edge.specs.Answers.{PutAll}
+use Rattle.std.specs.Prelude.{codes, decimal}
+use Rattle.nz_input.specs.declared.refusal.Fault.{Fault}
+use Rattle.nz_blocks.specs.Output.{line}
+use Rattle.nz_run.specs.declared.status.Status.TheVariants.{Grammar}
+use Rattle.nz_run.specs.Statuses.{status_line, fault_name}
+
+-- the first piece was taken whole, and then the second, or some first bytes of it
+pub then_more : (a b : Text) (r : Bool) (o m n : Option Text) → BothTold o m (λ old new. PutAll old new a true) → BothTold m n (λ old new. PutAll old new b r) → BothTold o n (λ old new. PutAll old new (a ++ b) r)
+then_more a b r None None None h k = tt
+then_more a b r None None (Some z) h k = k
+then_more a b r None (Some y) n h k = absurd h
+then_more a b r (Some x) None n h k = absurd h
+then_more a b r (Some x) (Some y) None h k = k
+then_more a b r (Some x) (Some y) (Some z) h k = go r k
+  where
+    go : (r : Bool) → PutAll y z b r → PutAll x z (a ++ b) r
+    go true k = k ∙ ap (λ (t : Text). t ++ b) h ∙ append_assoc x a b
+    go false k = (length a + k.0, k.1 ∙ ap (λ (t : Text). t ++ take k.0 b) h ∙ append_assoc x a (take k.0 b) ∙ ap (λ (t : Text). x ++ t) (sym (take-append-add a b k.0)))
+
+cut : (a b : Text) (n : ℕ) → (k : ℕ) × (take n a ≡ take k (a ++ b))
+cut [] b n = (0, none n b)
+  where
+    none : (n : ℕ) (b : Text) → take n [] ≡ take 0 b
+    none zero [] = refl
+    none zero (c ∷ b) = refl
+    none (suc n) [] = refl
+    none (suc n) (c ∷ b) = refl
+cut (c ∷ a) b zero = (0, refl)
+cut (c ∷ a) b (suc n) = (let r = cut a b n in (suc r.0, ap (λ (t : Text). c ∷ t) r.1))
+
+-- of the first piece some first bytes were taken
+pub stopped : (a b : Text) (o m : Option Text) → BothTold o m (λ old new. PutAll old new a false) → BothTold o m (λ old new. PutAll old new (a ++ b) false)
+stopped a b None None h = tt
+stopped a b None (Some y) h = h
+stopped a b (Some x) None h = h
+stopped a b (Some x) (Some y) h = (let c = cut a b h.0 in (c.0, h.1 ∙ ap (λ (t : Text). x ++ t) c.1))
+
+-- the same bytes
+pub put_same : (a b : Text) (r : Bool) (o m : Option Text) → a ≡ b → BothTold o m (λ old new. PutAll old new a r) → BothTold o m (λ old new. PutAll old new b r)
+put_same a b r o m e h = subst (λ (t : Text). BothTold o m (λ old new. PutAll old new t r)) e h
+
+pub place_text : (l c : ℕ) (f : Fault) → (codes "line " ++ decimal l) ++ ((codes " column " ++ decimal c) ++ line (codes ": " ++ fault_name f)) ≡ status_line (Grammar l c f)
+place_text l c f = simp append_assoc

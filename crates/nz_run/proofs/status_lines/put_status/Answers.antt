@@ -1,0 +1,41 @@
+use Rattle.std.proofs.Common.{◌++◌, ap, sym, ◌∙◌}
+use Rattle.std.specs.Prelude.{codes}
+use Rattle.nz_vec.specs.Texts.{Text}
+use Rattle.nz_blocks.specs.Output.{line}
+use Rattle.nz_run.specs.Statuses.{status_line}
+use Rattle.nz_run.specs.declared.status.Status.TheVariants.{Usage, Absent, ReadFault, TooLong, WriteFault, NoMemory, Crowded}
+use Rattle.nz_run.proofs.Pieces.{put_same}
+use Rattle.nz_run.proofs.status_lines.put_status.Goals as goal
+
+pub returns-in-NotBuilt-clause-written : goal.returns-in-NotBuilt-clause-written
+returns-in-NotBuilt-clause-written g c =
+    put_same (line (codes "not built: " ++ c.word.result.now)) (status_line c.args.status) c.put_text.result (g.S.Sink.written c.args.console.now) (g.S.Sink.written c.put_text.new.console)
+      (ap (λ (t : Text). line (codes "not built: " ++ t)) c.word.ensures ∙ ap status_line (sym c.in-NotBuilt.is)) c.put_text.ensures.written
+
+pub returns-in-Usage-clause-written : goal.returns-in-Usage-clause-written
+returns-in-Usage-clause-written g c =
+    put_same (status_line Usage) (status_line c.args.status) c.put_all-in-Usage.result (g.S.Sink.written c.args.console.now) (g.S.Sink.written c.put_all-in-Usage.new.sink) (ap status_line (sym c.in-Usage.is)) c.put_all-in-Usage.ensures.written
+
+pub returns-in-Absent-clause-written : goal.returns-in-Absent-clause-written
+returns-in-Absent-clause-written g c =
+    put_same (status_line Absent) (status_line c.args.status) c.put_all-in-Absent.result (g.S.Sink.written c.args.console.now) (g.S.Sink.written c.put_all-in-Absent.new.sink) (ap status_line (sym c.in-Absent.is)) c.put_all-in-Absent.ensures.written
+
+pub returns-in-ReadFault-clause-written : goal.returns-in-ReadFault-clause-written
+returns-in-ReadFault-clause-written g c =
+    put_same (status_line ReadFault) (status_line c.args.status) c.put_all-in-ReadFault.result (g.S.Sink.written c.args.console.now) (g.S.Sink.written c.put_all-in-ReadFault.new.sink) (ap status_line (sym c.in-ReadFault.is)) c.put_all-in-ReadFault.ensures.written
+
+pub returns-in-TooLong-clause-written : goal.returns-in-TooLong-clause-written
+returns-in-TooLong-clause-written g c =
+    put_same (status_line TooLong) (status_line c.args.status) c.put_all-in-TooLong.result (g.S.Sink.written c.args.console.now) (g.S.Sink.written c.put_all-in-TooLong.new.sink) (ap status_line (sym c.in-TooLong.is)) c.put_all-in-TooLong.ensures.written
+
+pub returns-in-WriteFault-clause-written : goal.returns-in-WriteFault-clause-written
+returns-in-WriteFault-clause-written g c =
+    put_same (status_line WriteFault) (status_line c.args.status) c.put_all-in-WriteFault.result (g.S.Sink.written c.args.console.now) (g.S.Sink.written c.put_all-in-WriteFault.new.sink) (ap status_line (sym c.in-WriteFault.is)) c.put_all-in-WriteFault.ensures.written
+
+pub returns-in-NoMemory-clause-written : goal.returns-in-NoMemory-clause-written
+returns-in-NoMemory-clause-written g c =
+    put_same (status_line NoMemory) (status_line c.args.status) c.put_all-in-NoMemory.result (g.S.Sink.written c.args.console.now) (g.S.Sink.written c.put_all-in-NoMemory.new.sink) (ap status_line (sym c.in-NoMemory.is)) c.put_all-in-NoMemory.ensures.written
+
+pub returns-in-Crowded-clause-written : goal.returns-in-Crowded-clause-written
+returns-in-Crowded-clause-written g c =
+    put_same (status_line Crowded) (status_line c.args.status) c.put_all-in-Crowded.result (g.S.Sink.written c.args.console.now) (g.S.Sink.written c.put_all-in-Crowded.new.sink) (ap status_line (sym c.in-Crowded.is)) c.put_all-in-Crowded.ensures.written

@@ -1,0 +1,86 @@
+//! From the bytes of the input to the bytes of the output.
+ghost use Rattle.std.specs.Prelude.{◌≡◌, ◌≤◌, ◌++◌, IfOk, IfErr, OnOk, Err};
+ghost use Rattle.nz_spec.specs.Elements.{IsHilbertBasis};
+ghost use Rattle.nz_box.specs.Sides.{IsCrowded};
+ghost use Rattle.nz_blocks.specs.Output.{text_of};
+ghost use Rattle.nz_run.specs.FileSystems.{rows_of, system_of};
+ghost use Rattle.nz_run.specs.Built.{IsBuilt};
+ghost use Rattle.nz_run.specs.Runs.{IsReadAs, IsSolved, IsCauseOrMemory, IsAnswered, Decided};
+
+use crate::Status;
+use crate::built::first_unbuilt;
+use nz_blocks::{Outcome, blocks};
+use nz_box::{Refusal, irreducibles};
+use nz_input::{File, Items, ReadRefusal, read};
+use nz_vec::{Bytes, NoMemory, Rows};
+use std::alloc::Global;
+
+/// The most bytes that an input may have.
+pub const MOST: usize = 16_777_216;
+
+fn append(rows: &mut Rows<i64>, more: &Rows<i64>) -> Result<(), NoMemory>
+    ensures { OnOk result (rows.new ≡ rows.old ++ more.now) }
+{
+    for place in 0..more.len() {
+        rows.push(more.at(place).try_copy()?)?;
+    }
+    Ok(())
+}
+
+// The rows of all items.
+fn all_rows(alloc: Global, items: &Items) -> Result<Rows<i64>, NoMemory>
+    ensures { IfOk result (λ rows. rows ≡ rows_of items.now) }
+{
+    let mut rows = Rows::new(alloc);
+    for place in 0..items.len() {
+        append(&mut rows, &items.at(place).rows)?;
+    }
+    Ok(rows)
+}
+
+// The text for a file of which everything is built.
+fn answer(alloc: Global, file: &File) -> Result<Bytes, Status>
+    requires { IsBuilt file.now }
+    ensures ok { IfOk result (IsAnswered file.now) }
+    ensures crowded { result ≡ Err Status.Crowded → IsCrowded (system_of file.now) }
+    ensures others { IfErr result (λ status. Decided status Status.Crowded) }
+{
+    file.kept();
+    let rows = match all_rows(alloc, &file.items) {
+        Ok(rows) => rows,
+        Err(_) => return Err(Status::NoMemory),
+    };
+    let list = match irreducibles(alloc, file.amb, &rows) {
+        Ok(list) => list,
+        Err(Refusal::Crowded) => return Err(Status::Crowded),
+        Err(Refusal::NoMemory) => return Err(Status::NoMemory),
+    };
+    let outcome = Outcome {
+        amb: file.amb,
+        level: false,
+        hilbert: Some(list),
+    };
+    match blocks(alloc, &outcome) {
+        Ok(text) => Ok(text),
+        Err(_) => Err(Status::NoMemory),
+    }
+}
+
+/// The text to be stored for the input, or the status that ends the run before the store.
+pub fn solved(alloc: Global, input: &[u8]) -> Result<Bytes, Status>
+    ensures ok { IfOk result (IsSolved input.now) }
+    ensures err { IfErr result (IsCauseOrMemory input.now) }
+{
+    if input.len() > MOST {
+        return Err(Status::TooLong);
+    }
+    let file = match read(alloc, input) {
+        Ok(file) => file,
+        Err(ReadRefusal::Grammar { line, column, fault }) => return Err(Status::Grammar { line, column, fault }),
+        Err(ReadRefusal::NoMemory) => return Err(Status::NoMemory),
+    };
+    match first_unbuilt(&file) {
+        Some(word) => Err(Status::NotBuilt(word)),
+        None => answer(alloc, &file),
+    }
+}

@@ -1,0 +1,114 @@
+//! The top call.
+ghost use Rattle.std.specs.Prelude.{◌≡◌, ◌≤◌, ◌++◌, IfOk, string_bytes};
+ghost use Rattle.nz_edge.specs.Folders.{BothTold};
+ghost use Rattle.nz_run.specs.Words.{AreRefused, bytes_of_each};
+ghost use Rattle.nz_run.specs.Runs.{Explains, ExplainsFor, Decided, PutsLine, Leaves, CountRose, StoreCount};
+
+use crate::Status;
+use crate::solving::{MOST, solved};
+use crate::status_lines::put_status;
+use crate::words::project_of;
+use nz_edge::{Folder, Load, Sink, Stored, Watch};
+use nz_vec::NoMemory;
+use std::alloc::Global;
+
+fn file_name(alloc: Global, project: &str, ending: &str) -> Result<String, NoMemory>
+    ensures { IfOk result (λ name. string_bytes name ≡ project.now ++ ending.now) }
+{
+    let mut name = match String::from_str(alloc, project) {
+        Ok(name) => name,
+        Err(_) => return Err(NoMemory),
+    };
+    match name.push_str(ending) {
+        Ok(()) => Ok(name),
+        Err(_) => Err(NoMemory),
+    }
+}
+
+// Solves what was loaded, and stores the text.
+fn solve_and_store<F: Folder>(alloc: Global, output_name: &str, input: &[u8], folder: &mut F) -> Status
+    ensures outcome { BothTold (F.files folder.old) (F.files folder.new) (Leaves output_name.now input.now result) }
+    ensures count { StoreCount result (F.store_faults folder.old) (F.store_faults folder.new) }
+    ensures faults { F.faults folder.new ≡ F.faults folder.old }
+    ensures misses { F.misses folder.new ≡ F.misses folder.old }
+    ensures later { F.store_faults folder.old ≤ F.store_faults folder.new }
+{
+    let text = match solved(alloc, input) {
+        Ok(text) => text,
+        Err(status) => return status,
+    };
+    match folder.store(output_name, text.as_slice()) {
+        Stored::Done => Status::Done,
+        Stored::Failed => Status::WriteFault,
+        Stored::NoMemory => Status::NoMemory,
+    }
+}
+
+// The run of a project, up to its status line.
+fn run_project<F: Folder>(alloc: Global, project: &str, folder: &mut F) -> Status
+    ensures outcome { BothTold (F.files folder.old) (F.files folder.new) (ExplainsFor project.now (F.faults folder.old) (F.faults folder.new) result) }
+    ensures count { CountRose result (F.faults folder.old) (F.faults folder.new) (F.misses folder.old) (F.misses folder.new) (F.store_faults folder.old) (F.store_faults folder.new) }
+    ensures not_usage { ¬ (result ≡ Status.Usage) }
+{
+    let input_name = match file_name(alloc, project, ".in") {
+        Ok(name) => name,
+        Err(_) => return Status::NoMemory,
+    };
+    let output_name = match file_name(alloc, project, ".out") {
+        Ok(name) => name,
+        Err(_) => return Status::NoMemory,
+    };
+    match folder.load(alloc, input_name.as_str(), MOST) {
+        Load::Bytes(input) => solve_and_store(alloc, output_name.as_str(), input.as_slice(), folder),
+        Load::Absent => Status::Absent,
+        Load::Failed => Status::ReadFault,
+        Load::NoMemory => Status::NoMemory,
+    }
+}
+
+// The run, up to its status line.
+fn run_words<F: Folder>(alloc: Global, words: &[String], folder: &mut F) -> Status
+    ensures outcome { BothTold (F.files folder.old) (F.files folder.new) (Explains (bytes_of_each words.now) (F.faults folder.old) (F.faults folder.new) result) }
+    ensures usage { result ≡ Status.Usage → AreRefused (bytes_of_each words.now) }
+    ensures usage_always { AreRefused (bytes_of_each words.now) → Decided result Status.Usage }
+    ensures count { CountRose result (F.faults folder.old) (F.faults folder.new) (F.misses folder.old) (F.misses folder.new) (F.store_faults folder.old) (F.store_faults folder.new) }
+{
+    match project_of(words) {
+        Some(project) => run_project(alloc, project, folder),
+        None => Status::Usage,
+    }
+}
+
+/// One run of the program: reads `<project>.in`, solves it, stores `<project>.out`, and writes the status line to the console.
+///
+/// The words are those behind the program's own name. The watch is told nothing yet.
+pub fn run<F: Folder, S: Sink>(
+    alloc: Global,
+    words: &[String],
+    folder: &mut F,
+    console: &mut S,
+    watch: &mut Box<dyn Watch>,
+) -> Status
+    // What the status says of the words, the input and the files. At Done the stored text lists exactly the irreducible elements of
+    // the monoid that the input's file defines, each once, in order. Each refusal has its cause, and leaves every file as it was.
+    ensures outcome { BothTold (F.files folder.old) (F.files folder.new) (Explains (bytes_of_each words.now) (F.faults folder.old) (F.faults folder.new) result) }
+
+    // Words that name no project are refused, and no others.
+    ensures usage { result ≡ Status.Usage → AreRefused (bytes_of_each words.now) }
+    ensures usage_always { AreRefused (bytes_of_each words.now) → Decided result Status.Usage }
+
+    // Absent, ReadFault and WriteFault come only where the folder counted such a fault in this call.
+    ensures count { CountRose result (F.faults folder.old) (F.faults folder.new) (F.misses folder.old) (F.misses folder.new) (F.store_faults folder.old) (F.store_faults folder.new) }
+
+    // The console grew by the status line, or after a fault by some first bytes of it.
+    ensures console { BothTold (S.written console.old) (S.written console.new) (PutsLine (S.faults console.old) (S.faults console.new) result) }
+
+    ensures stops { stops watch.new ≡ stops watch.old }
+    ensures told { told watch.new ≡ told watch.old }
+    ensures patience { patience watch.new ≡ patience watch.old }
+{
+    let _ = &watch;
+    let status = run_words(alloc, words, folder);
+    let _written = put_status(console, status);
+    status
+}
