@@ -1,5 +1,5 @@
 //! Runs over files and a console in memory: the worked files, and each status once.
-ghost use Rattle.std.specs.Prelude.{◌≡◌, ◌≤◌, IfOk, length};
+ghost use Rattle.std.specs.Prelude.{◌≤◌, IfOk, length};
 
 use crate::run;
 use nz_edge::{MemFolder, MemSink, QuietWatch, Watch};
@@ -210,12 +210,9 @@ fn runs(rt: HostRuntime) -> Result<(), Fail> {
     Ok(())
 }
 
-// One byte more than an input may have.
-fn spaces(alloc: Global) -> Result<Vec<u8>, Fail>
-    ensures { IfOk result (λ v. length v.items ≡ 16777217) }
-{
+fn spaces(alloc: Global, count: u32) -> Result<Vec<u8>, Fail> {
     let mut bytes = Vec::new(alloc);
-    for _byte in 0..16_777_217 {
+    for _byte in 0..count {
         bytes.push(b' ')?;
     }
     Ok(bytes)
@@ -223,11 +220,12 @@ fn spaces(alloc: Global) -> Result<Vec<u8>, Fail>
 
 #[test]
 fn long_inputs(rt: HostRuntime) -> Result<(), Fail> {
-    let bytes = spaces(rt.alloc())?;
+    let bytes = spaces(rt.alloc(), 16_777_217)?;
     let long = run_on(rt.alloc(), "p", Some(bytes.as_slice()), 0, 0)?;
     assert_eq!(rt; long.code, 5);
     assert_eq!(rt; long.console.bytes(), b"input too long\n".as_slice());
-    let longest = run_on(rt.alloc(), "p", Some(&bytes[..16_777_216]), 0, 0)?;
+    let bytes = spaces(rt.alloc(), 16_777_216)?;
+    let longest = run_on(rt.alloc(), "p", Some(bytes.as_slice()), 0, 0)?;
     assert_eq!(rt; longest.code, 6);
     assert_eq!(rt;
         longest.console.bytes(),
