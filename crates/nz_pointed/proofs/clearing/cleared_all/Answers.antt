@@ -1,0 +1,11 @@
+use Rattle.std.proofs.Common.{◌+◌, ap, ◌∙◌}
+use Rattle.nz_pointed.specs.Elimination.{IsCleared}
+use Rattle.nz_pointed.proofs.ListLemmas.{zip_more}
+use Rattle.nz_pointed.proofs.clearing.cleared_all.Goals as goal
+
+pub loop-place-preserved : goal.loop-place-preserved
+loop-place-preserved g c = (
+  c.push_reserved.ensures.len ∙ ap (λ n. n + 1) c.loop-place.invariant.0,
+  c.push_reserved.ensures.capacity ∙ c.loop-place.invariant.1,
+  zip_more (IsCleared c.args.form.now c.args.by.now) c.args.rows.now c.loop-place.all.items _ c.loop-place.place _ _ c.loop-place-test.true c.index-rows-place.is c.loop-place.invariant.2 c.in-Ok-cleared.ensures c.push_reserved.ensures.items,
+)

@@ -1,0 +1,73 @@
+// The two directions of a vector.
+ghost use Rattle.std.specs.Prelude.{◌≡◌, ◌≢◌, ◌⊎◌, pos, ◌<ℤ◌, IfOk, IsTrue, MatchBool, MatchOption, ◌↔◌, length};
+ghost use Rattle.nz_spec.specs.Vectors.{dot, opposite, IsNonzero, LeadsPositive};
+ghost use Rattle.nz_pointed.specs.Elimination.{IsTurned};
+
+use nz_vec::{Num, Row, Scalar};
+use std::alloc::Global;
+
+fn opposite<T: Scalar>(alloc: Global, row: &Row<T>) -> Result<Row<T>, Num>
+    ensures { IfOk result (λ r. r ≡ opposite row.now) }
+{
+    Row::combine(alloc, T::of_i64(-1), row, T::of_i64(0), row)
+}
+
+/// Whether a value stands for more than 0.
+pub(crate) fn is_positive<T: Scalar>(value: T) -> bool
+    ensures { IsTrue result ↔ (pos 0 <ℤ T.integer value) }
+{
+    T::of_i64(0) < value
+}
+
+/// Whether a value stands for another number than 0.
+pub(crate) fn is_nonzero<T: Scalar>(value: T) -> bool
+    ensures { IsTrue result ↔ (T.integer value ≢ pos 0) }
+{
+    value != T::of_i64(0)
+}
+
+/// The row or its opposite, whichever has a positive value at the form.
+pub(crate) fn turned<T: Scalar>(alloc: Global, form: &Row<T>, row: Row<T>) -> Result<Row<T>, Num>
+    requires width { length form.now ≡ length row }
+    requires nonzero { dot form.now row ≢ pos 0 }
+    ensures { IfOk result (IsTurned form.now row) }
+{
+    let value = match form.dot(&row) {
+        Some(value) => value,
+        None => return Err(Num::Range),
+    };
+    if is_positive(value) {
+        Ok(row)
+    } else {
+        opposite(alloc, &row)
+    }
+}
+
+// Whether the first nonzero entry is positive.
+fn leads_positive<T: Scalar>(row: &Row<T>) -> bool
+    requires { IsNonzero row.now }
+    ensures { MatchBool result (LeadsPositive row.now) (LeadsPositive (opposite row.now)) }
+{
+    for place in 0..row.len() {
+        let entry = row.at(place);
+        if is_nonzero(entry) {
+            return is_positive(entry);
+        }
+    }
+    false
+}
+
+/// The row or its opposite, whichever has a positive first nonzero entry.
+pub(crate) fn led<T: Scalar>(alloc: Global, row: &Row<T>) -> Result<Row<T>, Num>
+    requires { IsNonzero row.now }
+    ensures { IfOk result (λ r. LeadsPositive r × ((r ≡ row.now) ⊎ (r ≡ opposite row.now))) }
+{
+    if leads_positive(row) {
+        match row.try_copy() {
+            Ok(copy) => Ok(copy),
+            Err(refusal) => Err(Num::from(refusal)),
+        }
+    } else {
+        opposite(alloc, row)
+    }
+}

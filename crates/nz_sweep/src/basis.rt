@@ -1,0 +1,110 @@
+ghost use Rattle.std.specs.Prelude.{◌≡◌, ◌<◌, ℤ, IfOk, MatchResult, length};
+ghost use Rattle.std.specs.List.{AllByRecursion as Each};
+ghost use Rattle.nz_spec.specs.Vectors.{combination, unit_vectors, HasWidth};
+ghost use Rattle.nz_linear.specs.Coordinates.{in_coordinates};
+ghost use Rattle.nz_sweep.specs.Bases.{IsBase, column_of, CombinationSumsFit, ValueSumsFit};
+
+use crate::units::units;
+use nz_vec::{NoMemory, Num, Row, Scalar};
+use std::alloc::Global;
+use std::marker::Model;
+
+/// A lattice, by independent vectors that generate it.
+#[derive(Drop)]
+pub struct Basis<T: Scalar> {
+    width: usize,
+    base: Vec<Row<T>>,
+}
+
+impl<T: Scalar> Model for Basis<T> {
+    ghost use Rattle.nz_sweep.specs.Bases.{Base, IsBase};
+
+    ghost Value = { Base };
+
+    ghost view = { λ b. record { width = b.width; vectors = b.base.items } };
+
+    ghost invariant = { λ b. IsBase (record { width = b.width; vectors = b.base.items }) };
+}
+
+impl<T: Scalar> Basis<T> {
+    /// The lattice of all vectors of this width, by the unit vectors.
+    pub fn whole(alloc: Global, width: usize) -> Result<Basis<T>, NoMemory>
+        ensures { IfOk result (λ b. (b.width ≡ width) × (b.vectors ≡ unit_vectors width)) }
+    {
+        match units(alloc, width) {
+            Ok(base) => Ok(Basis { width, base }),
+            Err(refusal) => Err(refusal),
+        }
+    }
+
+    /// The number of vectors.
+    pub fn rank(&self) -> usize
+        ensures count { result ≡ length self.now.vectors }
+        ensures base { IsBase self.now }
+    {
+        self.base.len()
+    }
+
+    /// The vector with these coordinates. Range comes only where a product, or a sum of the first
+    /// products for one entry, is no value of the type.
+    pub fn vector(&self, alloc: Global, coordinates: &Row<T>) -> Result<Row<T>, Num>
+        requires { length coordinates.now ≡ length self.now.vectors }
+        ensures { MatchResult result (λ x. x ≡ combination self.now.width coordinates.now self.now.vectors) (λ e. e ≡ Num.Range → ¬ CombinationSumsFit T.fits self.now.width coordinates.now self.now.vectors) }
+    {
+        let mut entries = match Vec::with_capacity(alloc, self.width) {
+            Ok(entries) => entries,
+            Err(_) => return Err(Num::NoMemory),
+        };
+        for place in 0..self.width {
+            let column = match column(alloc, self.base.as_slice(), place, self.width) {
+                Ok(column) => column,
+                Err(refusal) => return Err(Num::from(refusal)),
+            };
+            match coordinates.dot(&column) {
+                Some(entry) => entries.push_reserved(entry),
+                None => return Err(Num::Range),
+            }
+        }
+        Ok(Row::from_vec(entries))
+    }
+
+    /// The form on coordinates: its values at the vectors. Range comes only where a product, or a
+    /// sum of the first products for one value, is no value of the type.
+    pub fn pull(&self, alloc: Global, form: &Row<T>) -> Result<Row<T>, Num>
+        requires { length form.now ≡ self.now.width }
+        ensures { MatchResult result (λ f. f ≡ in_coordinates self.now.vectors form.now) (λ e. e ≡ Num.Range → ¬ ValueSumsFit T.fits form.now self.now.vectors) }
+    {
+        let mut values = match Vec::with_capacity(alloc, self.base.len()) {
+            Ok(values) => values,
+            Err(_) => return Err(Num::NoMemory),
+        };
+        for place in 0..self.base.len() {
+            match form.dot(&self.base[place]) {
+                Some(value) => values.push_reserved(value),
+                None => return Err(Num::Range),
+            }
+        }
+        Ok(Row::from_vec(values))
+    }
+}
+
+// The entries of the vectors at one column.
+fn column<T: Scalar>(
+    alloc: Global,
+    base: &[Row<T>],
+    place: usize,
+    width: usize,
+) -> Result<Row<T>, NoMemory>
+    requires inside { place < width }
+    requires widths { Each (HasWidth width) base.now }
+    ensures { IfOk result (λ c. c ≡ column_of base.now place) }
+{
+    let mut entries = match Vec::with_capacity(alloc, base.len()) {
+        Ok(entries) => entries,
+        Err(_) => return Err(NoMemory),
+    };
+    for index in 0..base.len() {
+        entries.push_reserved(base[index].at(place));
+    }
+    Ok(Row::from_vec(entries))
+}
