@@ -1,0 +1,4 @@
+pub mod Reducing
+pub mod Places
+pub mod Keeping
+pub mod Generating
