@@ -1,0 +1,3 @@
+pub mod Degrees
+pub mod Positivities
+pub mod Ranks

@@ -1,0 +1,32 @@
+use Rattle.std.proofs.Common.{◌≡◌, ◌<◌, ◌≤◌, ◌+◌, List, [], length, take, get_or, sym, subst, arith}
+use Rattle.nz_spec.specs.Vectors.{Vector}
+use Rattle.nz_order.specs.Picks.{Picks, none}
+use Rattle.nz_module.specs.Levels.{IsAtLevel, HasEntry}
+use Rattle.nz_module.proofs.LevelLists.{each_at, picked_next, left_next, picked_all}
+use Rattle.nz_module.proofs.levels.rows_at.Goals as goal
+use Rattle.nz_module.proofs.levels.rows_at.Goals.{then-is_at+in_ok-try_copy+in_ok-push, else-is_at}
+
+pub loop-place-init : goal.loop-place-init
+loop-place-init g c = subst (λ (xs : List Vector). Picks (IsAtLevel (g.T.Scalar.integer c.args.level)) (take 0 c.args.list.now) xs) (sym c.new-picked.ensures) none
+
+pub is_at-requires : goal.is_at-requires
+is_at-requires g c =
+    let l : c.loop-place.place < length c.args.list.now = omega (arith, c.len-place-end.ensures) in
+    subst HasEntry (sym c.at-row.ensures) (each_at HasEntry c.args.list.now c.loop-place.place [] c.requires l)
+
+pub loop-place-preserved : goal.loop-place-preserved
+loop-place-preserved g c =
+    let Q = IsAtLevel (g.T.Scalar.integer c.args.level) in
+    let list = c.args.list.now in
+    let l : c.loop-place.place < length list = omega (arith, c.len-place-end.ensures) in
+    elim c.if-is_at.branch [
+      | then-is_at+in_ok-try_copy+in_ok-push w ↦
+          subst (Picks Q (take (c.loop-place.place + 1) list)) (sym w.picked-is)
+          (picked_next Q list c.loop-place.picked w.push.new.self c.loop-place.place c.at-row.result.now w.in_ok-try_copy.field-0 l c.at-row.ensures w.if-is_at.ensures w.in_ok-try_copy.ensures w.in_ok-push.ensures.ok c.loop-place.invariant)
+      | else-is_at w ↦
+          subst (Picks Q (take (c.loop-place.place + 1) list)) (sym w.picked-is)
+          (left_next Q list c.loop-place.picked c.loop-place.place c.at-row.result.now l c.at-row.ensures w.if-is_at.ensures c.loop-place.invariant)
+    ]
+
+pub returns : goal.returns
+returns g c = picked_all (IsAtLevel (g.T.Scalar.integer c.args.level)) c.args.list.now c.loop-place.picked c.loop-place.place (omega (arith, c.len-place-end.ensures)) c.loop-place.invariant
