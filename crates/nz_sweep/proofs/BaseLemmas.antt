@@ -1,8 +1,8 @@
 -- The entries of combinations, and lists of values that grow one by one.
-use Rattle.std.proofs.Common.{◌≡◌, ℕ, zero, suc, ◌+◌, ◌<◌, ◌≤◌, List, [], ◌∷◌, ◌++◌, length, map, get_or, take, ℤ, pos, ◌+ℤ◌, ◌*ℤ◌, refl, sym, ap, ◌∙◌, subst, arith}
-use Rattle.std.proofs.lemmas.List.{take_more, take_all, length-map, get_or-map}
+use Rattle.std.proofs.Common.{◌≡◌, ℕ, zero, suc, ◌+◌, ◌<◌, List, [], ◌∷◌, ◌++◌, length, map, get_or, take, ℤ, pos, ◌+ℤ◌, ◌*ℤ◌, refl, sym, ap, ◌∙◌, subst, arith}
+use Rattle.std.proofs.lemmas.List.{take_more, get_or-map}
 use Rattle.std.specs.List.{AllByRecursion as Each}
-use Rattle.nz_spec.specs.Vectors.{Vector, dot, plus, scaled, combination, zero_vector, unit_vectors, entry, HasWidth, IsZero}
+use Rattle.nz_spec.specs.Vectors.{Vector, dot, combination, zero_vector, unit_vectors, entry, HasWidth}
 use Rattle.nz_spec.specs.Sums.{IsIndependent}
 use Rattle.nz_spec.proofs.SumLaws.{length-combination}
 use Rattle.nz_linear.specs.DualPairs.{Pair, HasWidths}
@@ -10,7 +10,6 @@ use Rattle.nz_linear.specs.Elimination.{unit_pairs, shifted}
 use Rattle.nz_linear.proofs.EliminationRun.{unit_dual}
 use Rattle.nz_linear.proofs.DualPairs.{dual_independent}
 use Rattle.nz_linear.proofs.Units.{entry_sum, entry-zero_vector}
-use Rattle.nz_linear.proofs.Ring.{sums}
 use Rattle.nz_sweep.specs.Bases.{column_of, IsBase}
 
 -- the unit vectors are a base

@@ -1,4 +1,4 @@
-use Rattle.std.proofs.Common.{◌≡◌, length, map, take, vec_len}
+use Rattle.std.proofs.Common.{◌≡◌, map, take, vec_len}
 use Rattle.std.specs.Prelude.{vec_capacity}
 use Rattle.nz_spec.specs.Vectors.{combination}
 use Rattle.nz_sweep.proofs.basis.Basis.vector.Given as goal
