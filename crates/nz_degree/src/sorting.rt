@@ -15,9 +15,9 @@ use std::alloc::Global;
 pub fn sort<T: Scalar>(alloc: Global, list: &mut Rows<T>, grading: Option<&Row<T>>) -> Result<(), Num>
     requires { MatchOption grading ⊤ (λ g. Each (HasWidth (length g.now)) list.old) }
     ensures same { OnOk result (IsPermutation list.old list.new) }
-    ensures order { OnOk result (MatchOption grading (IsInOrder None list.new) (λ g. IsInOrder (Some g.now) list.new)) }
+    ensures order { OnOk result (MatchOption grading.entry (IsInOrder None list.new) (λ g. IsInOrder (Some g.now) list.new)) }
     ensures refused { OnErr result (list.new ≡ list.old) }
-    ensures range { result ≡ Err Num.Range → MatchOption grading ⊥ (λ g. LacksDegree T.fits g.now list.old) }
+    ensures range { result ≡ Err Num.Range → MatchOption grading.entry ⊥ (λ g. LacksDegree T.fits g.now list.old) }
 {
     match grading {
         Some(grading) => {

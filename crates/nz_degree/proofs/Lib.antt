@@ -1,0 +1,3 @@
+pub mod DegreeLists
+pub mod Firsts
+pub mod RankLaws
