@@ -6,6 +6,7 @@ use std::test::Fail;
 
 // Rows, a grading that is not positive there, and the place of its first; then the rows in order by the second entry.
 const ROWS: [[i64; 2]; 4] = [[1, 2], [2, 1], [1, 3], [1, 1]];
+
 const IN_ORDER: [[i64; 2]; 4] = [[1, 1], [2, 1], [1, 2], [1, 3]];
 
 fn row<T: Scalar>(alloc: Global, entries: [i64; 2]) -> Result<Row<T>, Fail> {
@@ -18,7 +19,9 @@ fn row<T: Scalar>(alloc: Global, entries: [i64; 2]) -> Result<Row<T>, Fail> {
 
 fn reads<T: Scalar>(row: &Row<T>, entries: [i64; 2]) -> bool {
     let [first, second] = entries;
-    row.len() == 2 && row.at(0).to_i128() == i128::from(first) && row.at(1).to_i128() == i128::from(second)
+    row.len() == 2
+        && row.at(0).to_i128() == i128::from(first)
+        && row.at(1).to_i128() == i128::from(second)
 }
 
 fn grades<T: Scalar>(rt: &impl Abort, alloc: Global) -> Result<(), Fail> {
