@@ -30,7 +30,13 @@ pub fn check<T: Scalar>(grading: &Row<T>, list: &Rows<T>) -> Result<Positivity, 
 }
 
 // Whether the row is to be named in place of what was found: it has degree 0 or less, and stands before.
-fn comes_first<T: Scalar>(list: &Rows<T>, found: Positivity, least: T, row: &Row<T>, degree: T) -> bool
+fn comes_first<T: Scalar>(
+    list: &Rows<T>,
+    found: Positivity,
+    least: T,
+    row: &Row<T>,
+    degree: T,
+) -> bool
     requires { IsFoundIn (length row.now) list.now found }
     ensures { MatchBool result (ComesFirst list.now found (T.integer least) (T.integer degree) row.now) (¬ ComesFirst list.now found (T.integer least) (T.integer degree) row.now) }
 {

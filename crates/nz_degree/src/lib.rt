@@ -15,6 +15,3 @@ pub use checking::check;
 pub use picking::degree_one;
 pub use positivity::Positivity;
 pub use sorting::sort;
-
-#[cfg(test)]
-mod tests;

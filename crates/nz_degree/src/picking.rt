@@ -9,7 +9,11 @@ use nz_vec::{Num, Row, Rows, Scalar};
 use std::alloc::Global;
 
 /// The rows of degree 1, in the order of the list.
-pub fn degree_one<T: Scalar>(alloc: Global, grading: &Row<T>, list: &Rows<T>) -> Result<Rows<T>, Num>
+pub fn degree_one<T: Scalar>(
+    alloc: Global,
+    grading: &Row<T>,
+    list: &Rows<T>,
+) -> Result<Rows<T>, Num>
     requires { Each (HasWidth (length grading.now)) list.now }
     ensures { MatchResult result (Picks (λ x. degree grading.now x ≡ pos 1) list.now) (λ e. e ≡ Num.Range → LacksDegree T.fits grading.now list.now) }
 {

@@ -12,7 +12,11 @@ use std::alloc::Global;
 
 /// Puts the rows into order: by degree where a grading is given, then lexicographically. A row
 /// that stands in the list several times stays there as often. After an error nothing has moved.
-pub fn sort<T: Scalar>(alloc: Global, list: &mut Rows<T>, grading: Option<&Row<T>>) -> Result<(), Num>
+pub fn sort<T: Scalar>(
+    alloc: Global,
+    list: &mut Rows<T>,
+    grading: Option<&Row<T>>,
+) -> Result<(), Num>
     requires { MatchOption grading ⊤ (λ g. Each (HasWidth (length g.now)) list.old) }
     ensures same { OnOk result (IsPermutation list.old list.new) }
     ensures order { OnOk result (MatchOption grading.entry (IsInOrder None list.new) (λ g. IsInOrder (Some g.now) list.new)) }
@@ -59,7 +63,12 @@ fn ungraded<T: Scalar>(alloc: Global, list: &Rows<T>) -> Result<Vec<Ranked<T>>, 
     Ok(ranked)
 }
 
-fn add<T: Scalar>(alloc: Global, ranked: &mut Vec<Ranked<T>>, row: &Row<T>, degree: T) -> Result<(), NoMemory>
+fn add<T: Scalar>(
+    alloc: Global,
+    ranked: &mut Vec<Ranked<T>>,
+    row: &Row<T>,
+    degree: T,
+) -> Result<(), NoMemory>
     ensures { OnOk result (Adds T.integer ranked.old.items ranked.new.items row.now degree) }
 {
     let entries = entries_of(alloc, row)?;
@@ -82,7 +91,11 @@ fn entries_of<T: Scalar>(alloc: Global, row: &Row<T>) -> Result<Vec<T>, NoMemory
 }
 
 // Puts the rows in the place of the list, sorted.
-fn put_sorted<T: Scalar>(alloc: Global, list: &mut Rows<T>, ranked: Vec<Ranked<T>>) -> Result<(), NoMemory>
+fn put_sorted<T: Scalar>(
+    alloc: Global,
+    list: &mut Rows<T>,
+    ranked: Vec<Ranked<T>>,
+) -> Result<(), NoMemory>
     ensures ok { OnOk result (IsSortedAs T.integer ranked.items list.new) }
     ensures err { OnErr result (list.new ≡ list.old) }
 {

@@ -16,17 +16,17 @@ loop-place-preserved g c =
     let int = g.T.Scalar.integer in
     let d : int c.in-Some.degree ≡ degree grading (get_or list k []) = c.in-Some.ensures.1 ∙ ap (degree grading) c.at-row.ensures in
     elim c.if-comes_first.branch [
-      then-comes_first w ↦
-        let h = subst (λ (x : Vector). ComesFirst list c.loop-place.found (int c.loop-place.least) (degree grading (get_or list k [])) x) c.at-row.ensures
-            (subst (λ (z : ℤ). ComesFirst list c.loop-place.found (int c.loop-place.least) z c.at-row.result.now) d w.if-comes_first.ensures) in
-        let m = found_more grading list k c.loop-place.found (int c.loop-place.least) c.loop-place.invariant h in
-        subst (λ (p : Positivity). Finds grading list (k + 1) p (int c.if-comes_first.least)) (sym w.found-is)
+      | then-comes_first w ↦
+          let h = subst (λ (x : Vector). ComesFirst list c.loop-place.found (int c.loop-place.least) (degree grading (get_or list k [])) x) c.at-row.ensures
+          (subst (λ (z : ℤ). ComesFirst list c.loop-place.found (int c.loop-place.least) z c.at-row.result.now) d w.if-comes_first.ensures) in
+          let m = found_more grading list k c.loop-place.found (int c.loop-place.least) c.loop-place.invariant h in
+          subst (λ (p : Positivity). Finds grading list (k + 1) p (int c.if-comes_first.least)) (sym w.found-is)
           (subst (λ (z : ℤ). Finds grading list (k + 1) (NotPositive k) z) (sym (ap int w.least-is ∙ d)) m)
-    | else-comes_first w ↦
-        let n = subst (λ (x : Vector). ¬ ComesFirst list c.loop-place.found (int c.loop-place.least) (degree grading (get_or list k [])) x) c.at-row.ensures
-            (subst (λ (z : ℤ). ¬ ComesFirst list c.loop-place.found (int c.loop-place.least) z c.at-row.result.now) d w.if-comes_first.ensures) in
-        let m = found_same grading list k c.loop-place.found (int c.loop-place.least) c.loop-place.invariant n in
-        subst (λ (p : Positivity). Finds grading list (k + 1) p (int c.if-comes_first.least)) (sym w.found-is)
+      | else-comes_first w ↦
+          let n = subst (λ (x : Vector). ¬ ComesFirst list c.loop-place.found (int c.loop-place.least) (degree grading (get_or list k [])) x) c.at-row.ensures
+          (subst (λ (z : ℤ). ¬ ComesFirst list c.loop-place.found (int c.loop-place.least) z c.at-row.result.now) d w.if-comes_first.ensures) in
+          let m = found_same grading list k c.loop-place.found (int c.loop-place.least) c.loop-place.invariant n in
+          subst (λ (p : Positivity). Finds grading list (k + 1) p (int c.if-comes_first.least)) (sym w.found-is)
           (subst (λ (z : ℤ). Finds grading list (k + 1) c.loop-place.found z) (sym (ap int w.least-is)) m)
     ]
 

@@ -15,13 +15,13 @@ loop-place-preserved g c =
     let list = c.args.list.now in
     let l : c.loop-place.place < length list = omega (arith, c.len-place-end.ensures) in
     elim c.if-is_one.branch [
-      then-is_one+in_ok-try_copy+in_ok-push w ↦
-        let h = subst (λ (z : ℤ). z ≡ pos 1) c.in-Some.ensures.1 w.if-is_one.ensures in
-        subst (Picks (λ x. degree grading x ≡ pos 1) (take (c.loop-place.place + 1) list)) (sym w.picked-is)
+      | then-is_one+in_ok-try_copy+in_ok-push w ↦
+          let h = subst (λ (z : ℤ). z ≡ pos 1) c.in-Some.ensures.1 w.if-is_one.ensures in
+          subst (Picks (λ x. degree grading x ≡ pos 1) (take (c.loop-place.place + 1) list)) (sym w.picked-is)
           (picked_next (λ x. degree grading x ≡ pos 1) list c.loop-place.picked w.push.new.self c.loop-place.place c.at-row.result.now w.in_ok-try_copy.field-0 l c.at-row.ensures h w.in_ok-try_copy.ensures w.in_ok-push.ensures.ok c.loop-place.invariant)
-    | else-is_one w ↦
-        let n = subst (λ (z : ℤ). ¬ (z ≡ pos 1)) c.in-Some.ensures.1 w.if-is_one.ensures in
-        subst (Picks (λ x. degree grading x ≡ pos 1) (take (c.loop-place.place + 1) list)) (sym w.picked-is)
+      | else-is_one w ↦
+          let n = subst (λ (z : ℤ). ¬ (z ≡ pos 1)) c.in-Some.ensures.1 w.if-is_one.ensures in
+          subst (Picks (λ x. degree grading x ≡ pos 1) (take (c.loop-place.place + 1) list)) (sym w.picked-is)
           (left_next (λ x. degree grading x ≡ pos 1) list c.loop-place.picked c.loop-place.place c.at-row.result.now l c.at-row.ensures n c.loop-place.invariant)
     ]
 

@@ -8,11 +8,11 @@ pub returns : goal.returns
 returns g c =
     let Added = Adds g.T.Scalar.integer c.args.ranked.now.items c.push.new.self.items c.args.row.now c.args.degree in
     elim c.match-push.branch [
-      in-Ok w ↦ subst (λ r. OnOk r Added) (sym w.result-is) (record {
+      | in-Ok w ↦ subst (λ r. OnOk r Added) (sym w.result-is) (record {
         added = record { degree = c.args.degree; entries = c.in_ok-entries.entries };
         whole = w.in-Ok.ensures.items;
         of_row = c.in_ok-entries.ensures;
         of_rank = refl;
       })
-    | in-Err w ↦ subst (λ r. OnOk r Added) (sym w.result-is) tt
+      | in-Err w ↦ subst (λ r. OnOk r Added) (sym w.result-is) tt
     ]
