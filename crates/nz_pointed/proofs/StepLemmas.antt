@@ -10,7 +10,7 @@ use Rattle.nz_spec.specs.Order.{Pairwise}
 use Rattle.nz_spec.specs.Covers.{vectors_at}
 use Rattle.nz_spec.proofs.VectorLaws.{one-scaled, dot-IsZero}
 use Rattle.nz_spec.proofs.ListLaws.{contains_here}
-use Rattle.nz_vec.specs.Primitives.{IsPrimitiveOf}
+use Rattle.nz_vec.specs.Primitives.{IsPrimitivePart}
 use Rattle.nz_linear.specs.DualPairs.{Pair, pair_of, divisor, HasWidths, IsDual, IsDualPair, OnlyZero}
 use Rattle.nz_linear.specs.Elimination.{IsState, IsPivotStep, unit_pairs, shifted}
 use Rattle.nz_linear.specs.Elimination as linear
@@ -167,7 +167,7 @@ elimination_skip w seen h places chosen left l lh z e =
     }
 
 -- what is divided out of a vector that is not 0 leaves a primitive one
-divided_primitive : (x q : Vector) → IsNonzero q → IsPrimitiveOf x q → IsPrimitive q
+divided_primitive : (x q : Vector) → IsNonzero q → IsPrimitivePart x q → IsPrimitive q
 divided_primitive x q n p = p.primitive (λ z. n (each_map (λ a. p.divisor *ℤ a ≡ pos 0) (λ a. a ≡ pos 0) q (λ a e. mul_is_zero p.divisor a (let d = p.positive in omega (arith, ints, d)) e) (map_each (λ a. p.divisor *ℤ a) (λ a. a ≡ pos 0) q (subst IsZero p.whole z))))
 
 -- the vectors of a dual pair are not 0

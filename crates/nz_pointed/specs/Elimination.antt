@@ -3,7 +3,7 @@ use Rattle.std.specs.Prelude.{◌≡◌, ◌≢◌, ◌⊎◌, ℕ, ◌+◌, ◌
 use Rattle.std.specs.List.{AllByRecursion as Each, AllZip}
 use Rattle.nz_spec.specs.Vectors.{Vector, dot, plus, scaled, opposite, HasWidth, IsPrimitive}
 use Rattle.nz_spec.specs.Covers.{vectors_at}
-use Rattle.nz_vec.specs.Primitives.{IsPrimitiveOf}
+use Rattle.nz_vec.specs.Primitives.{IsPrimitivePart}
 use Rattle.nz_linear.specs.DualPairs.{Pair}
 use Rattle.nz_linear.specs.Elimination.{IsState}
 use Rattle.nz_linear.specs.Echelon.{AreColumnPairs}
@@ -35,7 +35,7 @@ pub record IsTurned (h v u : Vector) : Type 0 where
 
 -- q is h(u) v - h(v) u, divided by the common divisor of its entries
 abbrev pub IsCleared : Vector → Vector → Vector → Vector → Type 0
-IsCleared h u v q = IsPrimitiveOf (plus (scaled (dot h u) v) (scaled (neg_ℤ (dot h v)) u)) q
+IsCleared h u v q = IsPrimitivePart (plus (scaled (dot h u) v) (scaled (neg_ℤ (dot h v)) u)) q
 
 -- the vector left at this place goes, turned, to the end of those chosen, and all others are cleared by it
 pub record IsExchange (h : Vector) (place : ℕ) (chosen left new_chosen new_left : List Vector) : Type 0 where
