@@ -1,17 +1,16 @@
 -- The first row of degree 0 or less, among those up to a place.
-use Rattle.std.proofs.Common.{◌≡◌, ◌≢◌, ℕ, ◌+◌, ◌<◌, ◌≤◌, ◌⊎◌, inl, inr, Bool, true, false, List, [], ◌∷◌, length, get_or, ℤ, pos, ◌≤ℤ◌, ◌<ℤ◌, Some, refl, sym, ap, ◌∙◌, subst, arith, below_more}
-use Rattle.std.specs.Prelude.{Contains, MatchBool}
+use Rattle.std.proofs.Common.{◌≡◌, ℕ, ◌+◌, ◌<◌, inl, inr, List, [], ◌∷◌, length, get_or, ℤ, pos, ◌≤ℤ◌, ◌<ℤ◌, Some, refl, sym, ap, ◌∙◌, subst, arith, below_more}
+use Rattle.std.specs.Prelude.{MatchBool}
 use Rattle.std.specs.Ordering.{is_lt}
 use Rattle.std.specs.declared.cmp.Ordering.{Ordering}
 use Rattle.std.specs.declared.cmp.Ordering.TheVariants.{Less, Equal, Greater}
 use Rattle.std.proofs.lemmas.Int.{ints, by_lt_z}
 use Rattle.std.specs.List.{AllByRecursion as Each}
 use Rattle.nz_spec.specs.Vectors.{Vector, HasWidth}
-use Rattle.nz_spec.specs.Order.{degree, StandsBefore, IsLexBefore, IsFirstOf}
+use Rattle.nz_spec.specs.Order.{degree, StandsBefore, IsLexBefore}
 use Rattle.nz_spec.proofs.ListLaws.{Each-contains}
 use Rattle.nz_order.proofs.OrderLaws.{lex_irreflexive, lex_transitive, stands_irreflexive, stands_transitive, stands_cases}
 use Rattle.nz_vec.specs.Comparisons.{Compares}
-use Rattle.nz_degree.specs.Degrees.{IsNotPositiveIn, IsPlaceOfFirst}
 use Rattle.nz_degree.specs.Positivities.{Tells, ComesFirst, IsFoundIn}
 use Rattle.nz_degree.specs.declared.positivity.Positivity.{Positivity}
 use Rattle.nz_degree.specs.declared.positivity.Positivity.TheVariants.{Positive, NotPositive}

@@ -1,5 +1,5 @@
 -- Rows by their degrees: which a type cannot reckon, the first that is not positive, and lists in order.
-use Rattle.std.specs.Prelude.{◌≡◌, ℕ, ◌<◌, List, [], length, get_or, ℤ, pos, ◌≤ℤ◌, Option, Some, Contains}
+use Rattle.std.specs.Prelude.{ℕ, ◌<◌, List, [], length, get_or, ℤ, pos, ◌≤ℤ◌, Option, Some, Contains}
 use Rattle.nz_spec.specs.Vectors.{Vector}
 use Rattle.nz_spec.specs.Order.{degree, StandsBefore, Pairwise, IsFirstOf}
 use Rattle.nz_vec.specs.Sums.{SumsFit}

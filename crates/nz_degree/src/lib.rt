@@ -15,3 +15,6 @@ pub use checking::check;
 pub use picking::degree_one;
 pub use positivity::Positivity;
 pub use sorting::sort;
+
+#[cfg(test)]
+mod tests;

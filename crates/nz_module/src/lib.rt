@@ -8,3 +8,6 @@
 mod levels;
 
 pub use levels::{Levels, levels_are_elements, split};
+
+#[cfg(test)]
+mod tests;

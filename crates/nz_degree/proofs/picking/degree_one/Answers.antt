@@ -1,4 +1,4 @@
-use Rattle.std.proofs.Common.{◌≡◌, ◌<◌, ◌+◌, List, [], length, take, ℤ, pos, sym, subst, arith}
+use Rattle.std.proofs.Common.{◌≡◌, ◌<◌, ◌+◌, List, length, take, ℤ, pos, sym, subst, arith}
 use Rattle.nz_spec.specs.Vectors.{Vector}
 use Rattle.nz_spec.specs.Order.{degree}
 use Rattle.nz_order.specs.Picks.{Picks, none}

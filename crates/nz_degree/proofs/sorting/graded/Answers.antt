@@ -1,4 +1,4 @@
-use Rattle.std.proofs.Common.{◌<◌, [], length, List, sym, subst, ap, arith, take, refl}
+use Rattle.std.proofs.Common.{◌<◌, length, arith}
 use Rattle.nz_spec.specs.Order.{degree}
 use Rattle.nz_degree.proofs.RankLaws.{ranked_more, ranked_all}
 use Rattle.nz_degree.proofs.sorting.graded.Goals as goal

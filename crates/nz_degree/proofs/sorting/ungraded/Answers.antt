@@ -1,4 +1,4 @@
-use Rattle.std.proofs.Common.{◌<◌, [], length, pos, arith}
+use Rattle.std.proofs.Common.{◌<◌, length, pos, arith}
 use Rattle.nz_degree.proofs.RankLaws.{ranked_more, ranked_all}
 use Rattle.nz_degree.proofs.sorting.ungraded.Goals as goal
 

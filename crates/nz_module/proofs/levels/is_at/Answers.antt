@@ -1,4 +1,4 @@
-use Rattle.std.proofs.Common.{◌≡◌, ℤ, ◌-◌, get_or, sym, ◌∙◌, ap, subst, pos}
+use Rattle.std.proofs.Common.{◌≡◌, ℤ, ◌-◌, get_or, ◌∙◌, ap, subst, pos}
 use Rattle.std.specs.Prelude.{MatchBool}
 use Rattle.nz_module.proofs.LevelLists.{level_entry}
 use Rattle.nz_module.proofs.levels.is_at.Goals as goal

@@ -1,4 +1,4 @@
-use Rattle.std.proofs.Common.{◌≡◌, ◌<◌, ◌≤◌, ◌+◌, List, [], length, take, get_or, sym, subst, arith}
+use Rattle.std.proofs.Common.{◌<◌, ◌+◌, List, [], length, take, sym, subst, arith}
 use Rattle.nz_spec.specs.Vectors.{Vector}
 use Rattle.nz_order.specs.Picks.{Picks, none}
 use Rattle.nz_module.specs.Levels.{IsAtLevel, HasEntry}
