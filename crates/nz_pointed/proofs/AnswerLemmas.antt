@@ -1,20 +1,19 @@
 -- What elimination holds after all rows is a line or a simplex.
-use Rattle.std.proofs.Common.{◌≡◌, ◌⊎◌, inl, inr, ⊎_elim, ℕ, zero, suc, ◌<◌, List, [], ◌∷◌, ◌++◌, length, map, get_or, ℤ, pos, neg_ℤ, refl, sym, ap, ap₂, ◌∙◌, subst, arith}
+use Rattle.std.proofs.Common.{◌≡◌, ◌⊎◌, inl, inr, ⊎_elim, ℕ, List, [], ◌∷◌, ◌++◌, length, map, get_or, pos, refl, sym, ap, ap₂, ◌∙◌, subst, arith}
 use Rattle.std.proofs.lemmas.List.{append-nil, length-map}
 use Rattle.std.proofs.lemmas.Int.{ints}
 use Rattle.std.specs.List.{AllByRecursion as Each, AllZip, Contains}
-use Rattle.nz_spec.specs.Vectors.{Vector, dot, opposite, HasWidth, IsZero, IsNonzero, IsPrimitive, LeadsPositive}
-use Rattle.nz_spec.specs.Sums.{IsIndependent}
+use Rattle.nz_spec.specs.Vectors.{Vector, dot, opposite, HasWidth, IsNonzero, IsPrimitive, LeadsPositive}
 use Rattle.nz_spec.specs.Covers.{vectors_at}
-use Rattle.nz_spec.specs.Forms.{IsNormalForm, IsEquation, IsEquationAt, IsOtherColumn, AreEquations}
+use Rattle.nz_spec.specs.Forms.{IsNormalForm, IsDualForm, AreDualForms, IsEquation, IsEquationAt, IsOtherColumn, AreEquations}
 use Rattle.nz_spec.proofs.VectorLaws.{one-scaled, length-opposite}
 use Rattle.nz_spec.proofs.ListLaws.{contains_here, contains_there, Each-contains}
 use Rattle.nz_linear.specs.DualPairs.{Pair, HasWidths, IsDualPair, OnlyZero}
 use Rattle.nz_linear.specs.Elimination.{IsState}
-use Rattle.nz_linear.specs.Echelon.{AreColumnPairs}
 use Rattle.nz_linear.specs.Division.{IsPrimitiveOf}
 use Rattle.nz_linear.proofs.Lists.{each_map, each_left, each_right, each_of_map, map_each, zip_map}
 use Rattle.nz_linear.proofs.KeyColumns.{equations_of_left}
+use Rattle.nz_linear.proofs.DualForms.{dual_forms_of_chosen}
 use Rattle.nz_linear.proofs.Division.{primitive_nonzero}
 use Rattle.nz_linear.proofs.Rank.{chosen_rows, chosen_independent, chosen_members}
 use Rattle.nz_pointed.specs.Pointed.{paired, IsLineOf, IsSimplexOf}
@@ -53,30 +52,59 @@ state_of_chosen w seen pairs free s = record {
     own [] = tt
     own (p ∷ ps) = (contains_here p.form (chosen_rows ps), each_map (λ (q : Pair). Contains (chosen_rows ps) q.form) (λ (q : Pair). Contains (p.form ∷ chosen_rows ps) q.form) ps (λ q c. contains_there p.form q.form (chosen_rows ps) c) (own ps))
 
-first_equation : (w : ℕ) (G : List Vector) (f : Vector) (fs : List Vector) → AreEquations w G (f ∷ fs) → IsEquation w G f
-first_equation w G f fs a = at a.columns a.others.only a.each
+-- each of the equations of a list is one of them
+equations_each : (w : ℕ) (G : List Vector) (fs : List Vector) → AreEquations w G fs → Each (IsEquation w G) fs
+equations_each w G fs a = at a.columns fs a.others.only a.each
   where
-    at : (columns : List ℕ) → Each (IsOtherColumn w G) columns → AllZip (IsEquationAt w G) columns (f ∷ fs) → IsEquation w G f
-    at [] o z = absurd z
-    at (c ∷ columns) o z = (c, o.0, z.0)
+    at : (columns : List ℕ) (fs : List Vector) → Each (IsOtherColumn w G) columns → AllZip (IsEquationAt w G) columns fs → Each (IsEquation w G) fs
+    at [] [] o z = tt
+    at [] (f ∷ fs) o z = absurd z
+    at (c ∷ columns) [] o z = absurd z
+    at (c ∷ columns) (f ∷ fs) o z = ((c, o.0, z.0), at columns fs o.1 z.1)
+
+-- and each dual form
+duals_each : (w : ℕ) (G : List Vector) (vs fs : List Vector) → AllZip (IsDualForm w G) vs fs → Each (λ f. (v : Vector) × IsDualForm w G v f) fs
+duals_each w G [] [] z = tt
+duals_each w G [] (f ∷ fs) z = absurd z
+duals_each w G (v ∷ vs) [] z = absurd z
+duals_each w G (v ∷ vs) (f ∷ fs) z = ((v, z.0), duals_each w G vs fs z.1)
 
 form_widths : (w : ℕ) (ps : List Pair) → Each (HasWidths w) ps → Each (HasWidth w) (map (λ (p : Pair). p.form) ps)
 form_widths w [] h = tt
 form_widths w (p ∷ ps) h = (h.0.form_width, form_widths w ps h.1)
 
--- the first vector left is an equation of the rows chosen
-left_normal : (w : ℕ) (rows : List Vector) (places : List ℕ) (chosen : List Vector) (b : Vector) (left : List Vector) → IsElimination w rows places chosen (b ∷ left) → IsNormalForm w rows b
-left_normal w rows places chosen b left e =
+pub own_parts : (ps : List Pair) → Each (λ (p : Pair). IsPrimitive p.vector) ps → AllZip (λ (p : Pair) f. IsPrimitiveOf p.vector f) ps (map (λ (p : Pair). p.vector) ps)
+own_parts ps h = zip_map (λ (p : Pair) f. IsPrimitiveOf p.vector f) (λ (p : Pair). p.vector) (λ (p : Pair). IsPrimitive p.vector) ps (λ p k. record { factor = pos 1; positive = omega (arith, ints); same = one-scaled p.vector; primitive = k }) h
+
+-- the vectors left are equations of the rows chosen
+pub left_normals : (w : ℕ) (rows : List Vector) (places : List ℕ) (chosen left : List Vector) → IsElimination w rows places chosen left → Each (IsNormalForm w rows) left
+left_normals w rows places chosen left e =
     let own = chosen_rows e.pairs in
-    let primitive : Each (λ (p : Pair). IsPrimitive p.vector) e.free = map_each (λ (p : Pair). p.vector) IsPrimitive e.free (subst (Each IsPrimitive) (sym e.same_left) e.primitive_left) in
-    let z : AllZip (λ (p : Pair) f. IsPrimitiveOf p.vector f) e.free (map (λ (p : Pair). p.vector) e.free) = zip_map (λ (p : Pair) f. IsPrimitiveOf p.vector f) (λ (p : Pair). p.vector) (λ (p : Pair). IsPrimitive p.vector) e.free (λ p k. record { factor = pos 1; positive = omega (arith, ints); same = one-scaled p.vector; primitive = k }) primitive in
+    let z = own_parts e.free (map_each (λ (p : Pair). p.vector) IsPrimitive e.free (subst (Each IsPrimitive) (sym e.same_left) e.primitive_left)) in
     let a : AreEquations w own (map (λ (p : Pair). p.vector) e.free) = equations_of_left w own e.columns e.pairs e.free (map (λ (p : Pair). p.vector) e.free) (form_widths w e.pairs (each_left (HasWidths w) e.pairs e.free e.state.pair.widths)) (state_of_chosen w rows e.pairs e.free e.state) e.column_pairs z in
-    record {
+    each_map (IsEquation w own) (IsNormalForm w rows) left (λ f k. record {
       vectors = own;
       of_list = chosen_members w rows e.pairs e.free e.state;
       independent = chosen_independent w rows e.pairs e.free e.state;
-      kind = inr (first_equation w own b left (subst (AreEquations w own) e.same_left a));
-    }
+      kind = inr k;
+    }) (equations_each w own left (subst (AreEquations w own) e.same_left a))
+
+-- the vectors of the rows chosen are their dual forms
+pub chosen_normals : (w : ℕ) (rows : List Vector) (places : List ℕ) (chosen left : List Vector) → Each (HasWidth w) rows → IsElimination w rows places chosen left → Each (IsNormalForm w rows) chosen
+chosen_normals w rows places chosen left l e =
+    let own = chosen_rows e.pairs in
+    let z = own_parts e.pairs (map_each (λ (p : Pair). p.vector) IsPrimitive e.pairs (subst (Each IsPrimitive) (sym e.same_chosen) e.primitive_chosen)) in
+    let a : AreDualForms w own (map (λ (p : Pair). p.vector) e.pairs) = dual_forms_of_chosen w rows e.columns e.pairs e.free (map (λ (p : Pair). p.vector) e.pairs) l e.state e.column_pairs z in
+    each_map (λ f. (v : Vector) × IsDualForm w own v f) (IsNormalForm w rows) chosen (λ f k. record {
+      vectors = own;
+      of_list = chosen_members w rows e.pairs e.free e.state;
+      independent = chosen_independent w rows e.pairs e.free e.state;
+      kind = inl k;
+    }) (duals_each w own own chosen (subst (AreDualForms w own) e.same_chosen a))
+
+-- the first vector left is an equation of the rows chosen
+left_normal : (w : ℕ) (rows : List Vector) (places : List ℕ) (chosen : List Vector) (b : Vector) (left : List Vector) → IsElimination w rows places chosen (b ∷ left) → IsNormalForm w rows b
+left_normal w rows places chosen b left e = (left_normals w rows places chosen (b ∷ left) e).0
 
 -- all rows are 0 at the vectors left
 left_vanish : (w : ℕ) (rows : List Vector) (places : List ℕ) (chosen : List Vector) (b : Vector) (left : List Vector) → IsElimination w rows places chosen (b ∷ left) → Each (λ r. dot r b ≡ pos 0) rows

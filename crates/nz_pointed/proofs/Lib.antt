@@ -3,3 +3,5 @@ pub mod SignLemmas
 pub mod UnitLemmas
 pub mod StepLemmas
 pub mod AnswerLemmas
+pub mod RangeLemmas
+pub mod ColumnLemmas

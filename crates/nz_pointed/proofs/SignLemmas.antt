@@ -1,20 +1,12 @@
 -- Opposite vectors, and the sign of the first nonzero entry.
-use Rattle.std.proofs.Common.{◌≡◌, ◌≢◌, ◌⊎◌, inl, inr, ℕ, zero, suc, ◌+◌, ◌<◌, ◌≤◌, ◌↔◌, List, [], ◌∷◌, ◌++◌, length, map, get_or, take, ℤ, pos, negsuc, neg_ℤ, ◌+ℤ◌, ◌*ℤ◌, ◌<ℤ◌, Bool, true, false, refl, sym, ap, ap₂, ◌∙◌, subst, arith}
-use Rattle.std.specs.Prelude.{Result, Ok, Err, IfOk, OnOk, IsTrue, MatchBool, MatchResult}
+use Rattle.std.proofs.Common.{◌≡◌, ◌≢◌, inl, inr, ℕ, zero, suc, ◌<◌, ◌↔◌, [], ◌∷◌, length, get_or, take, ℤ, pos, negsuc, neg_ℤ, ◌+ℤ◌, ◌*ℤ◌, ◌<ℤ◌, Bool, true, false, refl, ap₂, subst, arith}
+use Rattle.std.specs.Prelude.{IsTrue, MatchBool}
 use Rattle.std.proofs.lemmas.Int.{ints, by_lt_z}
 use Rattle.std.proofs.Math.IntN.{zero-*ℤ}
 use Rattle.std.specs.List.{AllByRecursion as Each}
-use Rattle.nz_spec.specs.Vectors.{Vector, dot, plus, scaled, opposite, IsZero, IsNonzero, IsPrimitive, IsMultipleOf, LeadsPositive, entry}
+use Rattle.nz_spec.specs.Vectors.{Vector, dot, plus, scaled, opposite, IsZero, IsPrimitive, IsMultipleOf, LeadsPositive}
 use Rattle.nz_linear.proofs.Ring.{sums, mul-neg, neg-mul, one-mul}
 use Rattle.nz_pointed.specs.Elimination.{IsTurned}
-
-pub on_ok : {A E : Type 0} (P Q : Type 0) (r : Result A E) → (P → Q) → OnOk r P → OnOk r Q
-on_ok P Q (Ok x) f h = f h
-on_ok P Q (Err e) f h = tt
-
-pub ok_map : {A E : Type 0} (P Q : A → Type 0) (r : Result A E) → ((x : A) → P x → Q x) → IfOk r P → IfOk r Q
-ok_map P Q (Ok x) f h = f x h
-ok_map P Q (Err e) f h = tt
 
 -- -1 times x and 0 times x
 pub opposite_sum : (a b : ℤ) (x : Vector) → a ≡ negsuc 0 → b ≡ pos 0 → plus (scaled a x) (scaled b x) ≡ opposite x
@@ -43,7 +35,7 @@ multiples_back d (a ∷ x) h = let (k, e) = h.0 in let n = neg-mul k d in ((neg_
 pub primitive_opposite : (x : Vector) → IsPrimitive x → IsPrimitive (opposite x)
 primitive_opposite x p = λ d h. p d (multiples_back d x h)
 
-not_true : IsTrue false → ⊥
+pub not_true : IsTrue false → ⊥
 not_true h = grind arith
 
 pub turned_by_value : (h v u : Vector) (a : ℤ) → a ≡ dot h v → dot h v ≢ pos 0 → (IsTrue false ↔ (pos 0 <ℤ a)) → u ≡ opposite v → IsTurned h v u
@@ -68,7 +60,3 @@ leads_by x i a true l z e n s = leads_up x i l z (subst (λ t. pos 0 <ℤ t) e (
 leads_by x i a false l z e n s =
     let below : a <ℤ pos 0 = by_lt_z a (pos 0) (λ k. k) (λ k. by_lt_z (pos 0) a (λ m. absurd (not_true (s.1 m))) (λ m. absurd (n (omega (arith, ints, k, m))))) in
     leads_down x i l z (subst (λ t. t <ℤ pos 0) e below)
-
-pub opposite_ok : {E : Type 0} (a b : ℤ) (x : Vector) (r : Result Vector E) (Q : E → Type 0) → a ≡ negsuc 0 → b ≡ pos 0 → MatchResult r (λ y. y ≡ plus (scaled a x) (scaled b x)) Q → IfOk r (λ y. y ≡ opposite x)
-opposite_ok a b x (Ok y) Q e f h = h ∙ opposite_sum a b x e f
-opposite_ok a b x (Err k) Q e f h = tt

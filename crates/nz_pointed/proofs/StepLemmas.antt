@@ -1,26 +1,24 @@
 -- What is held by elimination: before any row, after a row that is 0 at all vectors left, and after one that is not.
-use Rattle.std.proofs.Common.{◌≡◌, ◌≢◌, ◌⊎◌, inl, inr, ⊎_elim, ℕ, zero, suc, ◌+◌, ◌<◌, ◌≤◌, List, [], ◌∷◌, ◌++◌, length, map, get_or, take, drop, ℤ, pos, negsuc, neg_ℤ, ◌*ℤ◌, ◌<ℤ◌, ◌≤ℤ◌, Option, Some, None, refl, sym, ap, ap₂, ◌∙◌, subst, arith}
+use Rattle.std.proofs.Common.{◌≡◌, ◌⊎◌, ⊎_elim, ℕ, zero, suc, ◌+◌, ◌<◌, List, [], ◌∷◌, ◌++◌, length, map, get_or, take, drop, ℤ, pos, negsuc, neg_ℤ, ◌*ℤ◌, Some, refl, sym, ap, ap₂, ◌∙◌, subst, arith}
 use Rattle.std.specs.List.{AllByRecursion as Each, AllZip, Contains}
 use Rattle.std.proofs.lemmas.List.{append-nil, append_assoc, take_more, length-take-le}
 use Rattle.std.proofs.lemmas.List.Elements.{Contains-append_left, Contains-append_right}
 use Rattle.std.proofs.lemmas.Int.{ints}
-use Rattle.nz_spec.specs.Vectors.{Vector, dot, plus, scaled, opposite, HasWidth, IsZero, IsNonzero, IsPrimitive, unit_vectors, zero_vector}
+use Rattle.nz_spec.specs.Vectors.{Vector, dot, plus, scaled, HasWidth, IsZero, IsNonzero, IsPrimitive, unit_vectors, zero_vector}
 use Rattle.nz_spec.specs.Sums.{IsInSpan}
-use Rattle.nz_spec.specs.Order.{Pairwise}
 use Rattle.nz_spec.specs.Covers.{vectors_at}
 use Rattle.nz_spec.proofs.VectorLaws.{one-scaled, dot-IsZero}
 use Rattle.nz_spec.proofs.ListLaws.{contains_here}
 use Rattle.nz_vec.specs.Primitives.{IsPrimitivePart}
-use Rattle.nz_linear.specs.DualPairs.{Pair, pair_of, divisor, HasWidths, IsDual, IsDualPair, OnlyZero}
+use Rattle.nz_linear.specs.DualPairs.{Pair, pair_of, HasWidths, IsDual, IsDualPair, OnlyZero}
 use Rattle.nz_linear.specs.Elimination.{IsState, IsPivotStep, unit_pairs, shifted}
 use Rattle.nz_linear.specs.Elimination as linear
-use Rattle.nz_linear.specs.Echelon.{AreColumnPairs, IsColumnPair}
+use Rattle.nz_linear.specs.Echelon.{IsColumnPair}
 use Rattle.nz_linear.proofs.Signs.{mul_is_zero}
 use Rattle.nz_linear.proofs.Division.{primitive_nonzero}
 use Rattle.nz_linear.proofs.Lists.{each_map, each_append, each_left, each_right, each_insert, each_remove, map_each}
 use Rattle.nz_linear.proofs.VectorLaws.{length-plus, length-scaled}
 use Rattle.nz_linear.proofs.DualGroups.{dual_insert}
-use Rattle.nz_linear.proofs.DualPairs.{dual_left, dual_right}
 use Rattle.nz_linear.proofs.Members.{members_push, state_of_members}
 use Rattle.nz_linear.proofs.RayStart.{HaveSameMembers}
 use Rattle.nz_linear.proofs.Elimination.{skip_keeps, pivot_keeps}
@@ -29,7 +27,7 @@ use Rattle.nz_linear.proofs.Echelon.{start_columns, split_columns, pivot_columns
 use Rattle.nz_linear.proofs.Rank.{in_seen_span, seen_span_vanishes}
 use Rattle.nz_pointed.specs.Pointed.{IsNew, AreFirstIndependent}
 use Rattle.nz_pointed.specs.Elimination.{IsElimination, IsFirstNonzero, IsTurned, IsCleared, IsExchange}
-use Rattle.nz_pointed.proofs.ListLemmas.{pairwise_push, Split, split_at, map_join, with_vectors, take_joined, at_joined, at_end, take_whole, length_joined, each_at, each_take}
+use Rattle.nz_pointed.proofs.ListLemmas.{pairwise_push, split_at, map_join, with_vectors, take_joined, at_joined, at_end, take_whole, length_joined, each_at, each_take}
 use Rattle.nz_pointed.proofs.SignLemmas.{opposite_scaled, primitive_opposite}
 
 -- ---- the start

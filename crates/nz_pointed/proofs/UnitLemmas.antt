@@ -1,9 +1,9 @@
 -- The unit vectors, entry by entry and one by one.
-use Rattle.std.proofs.Common.{◌≡◌, ◌≢◌, ℕ, zero, suc, ◌+◌, ◌<◌, ◌≤◌, List, [], ◌∷◌, ◌++◌, length, map, get_or, take, ℤ, pos, refl, sym, ap, ◌∙◌, arith}
+use Rattle.std.proofs.Common.{◌≡◌, ℕ, zero, suc, ◌+◌, ◌<◌, ◌≤◌, List, [], ◌∷◌, ◌++◌, length, map, get_or, take, ℤ, pos, refl, sym, ap, ◌∙◌, arith}
 use Rattle.std.proofs.lemmas.List.{take_more, take_all, length-map, get_or-map}
-use Rattle.nz_spec.specs.Vectors.{Vector, zero_vector, unit_vectors, entry}
+use Rattle.nz_spec.specs.Vectors.{Vector, unit_vectors, entry}
 use Rattle.nz_linear.specs.Echelon.{unit_at}
-use Rattle.nz_linear.proofs.Units.{length-unit_at, entry-unit_own, entry-unit_other}
+use Rattle.nz_linear.proofs.Units.{length-unit_at}
 
 pub length-unit_vectors : (w : ℕ) → length (unit_vectors w) ≡ w
 length-unit_vectors zero = refl

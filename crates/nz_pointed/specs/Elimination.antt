@@ -1,7 +1,7 @@
 -- Elimination on lists of vectors: what is held after some rows, and one step.
 use Rattle.std.specs.Prelude.{◌≡◌, ◌≢◌, ◌⊎◌, ℕ, ◌+◌, ◌<◌, List, [], ◌∷◌, ◌++◌, length, map, get_or, take, drop, pos, neg_ℤ, ◌<ℤ◌, Option, Some, None}
 use Rattle.std.specs.List.{AllByRecursion as Each, AllZip}
-use Rattle.nz_spec.specs.Vectors.{Vector, dot, plus, scaled, opposite, HasWidth, IsPrimitive}
+use Rattle.nz_spec.specs.Vectors.{Vector, dot, plus, scaled, opposite, IsPrimitive}
 use Rattle.nz_spec.specs.Covers.{vectors_at}
 use Rattle.nz_vec.specs.Primitives.{IsPrimitivePart}
 use Rattle.nz_linear.specs.DualPairs.{Pair}

@@ -1,11 +1,12 @@
 -- What is answered of rows: a vector at which all are 0, or the first independent ones with their rays.
-use Rattle.std.specs.Prelude.{◌≡◌, ◌⊎◌, ℕ, ◌<◌, List, [], ◌∷◌, length, get_or, take, pos}
+use Rattle.std.specs.Prelude.{◌≡◌, ◌⊎◌, ℕ, ◌<◌, ℤ, Contains, List, [], ◌∷◌, length, get_or, take, pos}
 use Rattle.std.specs.List.{AllByRecursion as Each}
 use Rattle.nz_spec.specs.Vectors.{Vector, dot, opposite, HasWidth, IsPrimitive, LeadsPositive}
 use Rattle.nz_spec.specs.Sums.{IsInSpan}
 use Rattle.nz_spec.specs.Order.{IsListOf}
 use Rattle.nz_spec.specs.Covers.{vectors_at}
-use Rattle.nz_spec.specs.Forms.{IsNormalForm}
+use Rattle.nz_spec.specs.Forms.{IsNormalForm, IsOtherColumn, AreEquations}
+use Rattle.nz_range.specs.Measures.{SomeLarge, SomeLargeAt}
 use Rattle.nz_linear.specs.DualPairs.{Pair, pair_of, IsDualPair, OnlyZero}
 use Rattle.nz_pointed.specs.declared.starting.Pointed.{Pointed}
 use Rattle.nz_pointed.specs.declared.starting.Pointed.TheVariants.{Simplex, Line}
@@ -45,3 +46,13 @@ pub record IsSimplexOf (w : ℕ) (rows : List Vector) (places : List ℕ) (rays 
 abbrev pub IsAnswer : {T : Type 0} → ℕ → List Vector → Pointed T → Type 0
 IsAnswer w rows (Simplex s) = IsSimplexOf w rows s.places s.rays
 IsAnswer w rows (Line v) = IsLineOf w rows v
+
+-- the columns that are no key column, and the equations
+pub record AreEquationsWith (w : ℕ) (rows : List Vector) (columns : List ℕ) (forms : List Vector) : Type 0 where
+  pub others : IsListOf ◌<◌ (IsOtherColumn w rows) columns
+  pub equations : AreEquations w rows forms
+  pub one_each : length forms ≡ length columns
+
+-- a normal form of the rows, or a row at one, has a measure above the bound
+abbrev pub IsTooLarge : ℤ → ℕ → List Vector → Type 0
+IsTooLarge bound w rows = SomeLarge bound (IsNormalForm w rows) ⊎ SomeLargeAt bound (Contains rows) (IsNormalForm w rows)

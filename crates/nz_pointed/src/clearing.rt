@@ -1,7 +1,8 @@
 // Clearing: what is left of vectors when a multiple of one of them is taken from each.
-ghost use Rattle.std.specs.Prelude.{◌≡◌, IfOk, length};
+ghost use Rattle.std.specs.Prelude.{◌≡◌, ◌∷◌, [], length, MatchResult};
 ghost use Rattle.std.specs.List.{AllByRecursion as Each, AllZip};
 ghost use Rattle.nz_spec.specs.Vectors.{dot, HasWidth};
+ghost use Rattle.nz_range.specs.Measures.{AreLargeFor};
 ghost use Rattle.nz_pointed.specs.Elimination.{IsCleared, IsFirstNonzero};
 
 use crate::signs::is_nonzero;
@@ -11,7 +12,7 @@ use std::alloc::Global;
 /// The place of the first row at which the form is not 0.
 pub(crate) fn first_nonzero<T: Scalar>(form: &Row<T>, rows: &[Row<T>]) -> Result<Option<usize>, Num>
     requires { Each (HasWidth (length form.now)) rows.now }
-    ensures { IfOk result (IsFirstNonzero form.now rows.now) }
+    ensures { MatchResult result (IsFirstNonzero form.now rows.now) (λ _. AreLargeFor T.HALF form.now rows.now) }
 {
     for place in 0..rows.len() {
         match form.dot(&rows[place]) {
@@ -37,7 +38,7 @@ pub(crate) fn cleared_all<T: Scalar>(
     requires width { length by.now ≡ length form.now }
     requires widths { Each (HasWidth (length form.now)) rows.now }
     requires value { T.integer value ≡ dot form.now by.now }
-    ensures { IfOk result (λ v. AllZip (IsCleared form.now by.now) rows.now v.items) }
+    ensures { MatchResult result (λ v. AllZip (IsCleared form.now by.now) rows.now v.items) (λ e. e ≡ Num.Range → AreLargeFor T.HALF form.now (by.now ∷ rows.now)) }
 {
     let mut all = match Vec::with_capacity(alloc, rows.len()) {
         Ok(all) => all,
@@ -63,7 +64,7 @@ fn cleared<T: Scalar>(
     requires width { length by.now ≡ length form.now }
     requires row_width { length row.now ≡ length form.now }
     requires value { T.integer value ≡ dot form.now by.now }
-    ensures { IfOk result (IsCleared form.now by.now row.now) }
+    ensures { MatchResult result (IsCleared form.now by.now row.now) (λ e. e ≡ Num.Range → AreLargeFor T.HALF form.now (by.now ∷ row.now ∷ [])) }
 {
     let at_row = match form.dot(row) {
         Some(at_row) => at_row,

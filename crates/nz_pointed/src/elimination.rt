@@ -1,13 +1,15 @@
 // Elimination, row by row.
-ghost use Rattle.std.specs.Prelude.{◌≡◌, ◌≢◌, pos, ℕ, ◌+◌, ◌<◌, ◌++◌, ◌∷◌, [], ℤ, List, IfOk, OnOk, length, take, get_or};
-ghost use Rattle.std.specs.List.{AllByRecursion as Each};
+ghost use Rattle.std.specs.Prelude.{◌≡◌, ◌≢◌, pos, ℕ, ◌+◌, ◌<◌, ◌++◌, ◌∷◌, [], ℤ, List, IfOk, MatchResult, Contains, length, take, get_or};
+ghost use Rattle.std.specs.List.{AllByRecursion as Each, AllZip};
 ghost use Rattle.nz_spec.specs.Vectors.{dot, HasWidth, IsNonzero};
+ghost use Rattle.nz_range.specs.Measures.{SomeLarge, AreLargeFor};
 ghost use Rattle.nz_pointed.specs.Elimination.{IsElimination, IsExchange};
-ghost use Rattle.nz_pointed.specs.Pointed.{IsAnswer};
+ghost use Rattle.nz_linear.specs.Echelon.{EndsAt};
+ghost use Rattle.nz_pointed.specs.Pointed.{IsAnswer, AreEquationsWith};
 
 use crate::clearing::{cleared_all, first_nonzero};
-use crate::signs::{led, turned};
-use crate::starting::{Pointed, Simplex};
+use crate::signs::{is_nonzero, led, turned};
+use crate::starting::{Equations, Pointed, Simplex};
 use crate::units::units;
 use nz_vec::{NoMemory, Num, Places, Row, Rows, Scalar};
 use std::alloc::Global;
@@ -41,7 +43,7 @@ impl<T: Scalar> Elimination<T> {
         requires within { place < length rows.now }
         requires widths { Each (HasWidth (length (get_or rows.now place []))) rows.now }
         requires state { IsElimination (length (get_or rows.now place [])) (take place rows.now) self.old.places self.old.chosen.items self.old.left.items }
-        ensures { OnOk result (IsElimination (length (get_or rows.now place [])) (take (place + 1) rows.now) self.new.places self.new.chosen.items self.new.left.items) }
+        ensures { MatchResult result (λ _. IsElimination (length (get_or rows.now place [])) (take (place + 1) rows.now) self.new.places self.new.chosen.items self.new.left.items) (λ e. e ≡ Num.Range → AreLargeFor T.HALF (get_or rows.now place []) (self.old.chosen.items ++ self.old.left.items)) }
     {
         let form = rows.at(place);
         let found = match first_nonzero(form, self.left.as_slice()) {
@@ -66,7 +68,7 @@ impl<T: Scalar> Elimination<T> {
         requires nonzero { dot form.now (get_or self.old.left.items pivot []) ≢ pos 0 }
         requires left { Each (HasWidth (length form.now)) self.old.left.items }
         requires chosen { Each (HasWidth (length form.now)) self.old.chosen.items }
-        ensures { OnOk result ((self.new.places ≡ self.old.places ++ place ∷ []) × IsExchange form.now pivot self.old.chosen.items self.old.left.items self.new.chosen.items self.new.left.items) }
+        ensures { MatchResult result (λ _. (self.new.places ≡ self.old.places ++ place ∷ []) × IsExchange form.now pivot self.old.chosen.items self.old.left.items self.new.chosen.items self.new.left.items) (λ e. e ≡ Num.Range → AreLargeFor T.HALF form.now (self.old.chosen.items ++ self.old.left.items)) }
     {
         let own = match turned(alloc, form, self.left.remove(pivot)) {
             Ok(own) => own,
@@ -97,7 +99,7 @@ impl<T: Scalar> Elimination<T> {
     /// What is known after all rows.
     pub(crate) fn answer(self, alloc: Global) -> Result<Pointed<T>, Num>
         requires { Each IsNonzero self.left.items }
-        ensures { IfOk result (λ a. (w : ℕ) (rows : List (List ℤ)) → IsElimination w rows self.places self.chosen.items self.left.items → IsAnswer w rows a) }
+        ensures { MatchResult result (λ a. (w : ℕ) (rows : List (List ℤ)) → IsElimination w rows self.places self.chosen.items self.left.items → IsAnswer w rows a) (λ e. e ≡ Num.Range → SomeLarge T.HALF (Contains self.left.items)) }
     {
         if self.left.is_empty() {
             match rows_of(alloc, self.chosen) {
@@ -114,6 +116,51 @@ impl<T: Scalar> Elimination<T> {
             }
         }
     }
+
+    /// The vectors left, as the equations of all rows.
+    pub(crate) fn equations(self, alloc: Global) -> Result<Equations<T>, NoMemory>
+        requires { Each IsNonzero self.left.items }
+        ensures { IfOk result (λ e. (w : ℕ) (rows : List (List ℤ)) → Each (HasWidth w) rows → IsElimination w rows self.places self.chosen.items self.left.items → AreEquationsWith w rows e.columns e.forms) }
+    {
+        let columns = match columns_of(alloc, self.left.as_slice()) {
+            Ok(columns) => columns,
+            Err(refusal) => return Err(refusal),
+        };
+        match rows_of(alloc, self.left) {
+            Ok(forms) => Ok(Equations { columns, forms }),
+            Err(refusal) => Err(refusal),
+        }
+    }
+}
+
+// The column of each vector left: that of its last nonzero entry.
+fn columns_of<T: Scalar>(alloc: Global, left: &[Row<T>]) -> Result<Places, NoMemory>
+    requires { Each IsNonzero left.now }
+    ensures { IfOk result (λ c. AllZip (λ x k. EndsAt k x) left.now c) }
+{
+    let mut columns = Places::new(alloc);
+    for place in 0..left.len() {
+        match columns.push(last_nonzero(&left[place])) {
+            Ok(()) => {}
+            Err(refusal) => return Err(refusal),
+        }
+    }
+    Ok(columns)
+}
+
+// The column of the last nonzero entry.
+fn last_nonzero<T: Scalar>(row: &Row<T>) -> usize
+    requires { IsNonzero row.now }
+    ensures { EndsAt result row.now }
+{
+    let mut column = row.len();
+    while column > 0 {
+        column -= 1;
+        if is_nonzero(row.at(column)) {
+            return column;
+        }
+    }
+    0
 }
 
 fn rows_of<T: Scalar>(alloc: Global, list: Vec<Row<T>>) -> Result<Rows<T>, NoMemory>

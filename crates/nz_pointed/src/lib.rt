@@ -11,7 +11,7 @@ mod signs;
 mod starting;
 mod units;
 
-pub use starting::{Pointed, Simplex, start};
+pub use starting::{Equations, Pointed, Simplex, equations_of, start};
 
 #[cfg(test)]
 mod tests;

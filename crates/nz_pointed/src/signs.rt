@@ -1,13 +1,14 @@
 // The two directions of a vector.
-ghost use Rattle.std.specs.Prelude.{◌≡◌, ◌≢◌, ◌⊎◌, pos, ◌<ℤ◌, IfOk, IsTrue, MatchBool, MatchOption, ◌↔◌, length};
+ghost use Rattle.std.specs.Prelude.{◌≡◌, ◌≢◌, ◌⊎◌, pos, ◌<ℤ◌, ◌∷◌, [], IsTrue, MatchBool, MatchResult, ◌↔◌, length};
 ghost use Rattle.nz_spec.specs.Vectors.{dot, opposite, IsNonzero, LeadsPositive};
+ghost use Rattle.nz_range.specs.Measures.{measure, AreLargeFor};
 ghost use Rattle.nz_pointed.specs.Elimination.{IsTurned};
 
 use nz_vec::{Num, Row, Scalar};
 use std::alloc::Global;
 
 fn opposite<T: Scalar>(alloc: Global, row: &Row<T>) -> Result<Row<T>, Num>
-    ensures { IfOk result (λ r. r ≡ opposite row.now) }
+    ensures { MatchResult result (λ r. r ≡ opposite row.now) (λ e. e ≡ Num.Range → T.HALF <ℤ pos (measure row.now)) }
 {
     Row::combine(alloc, T::of_i64(-1), row, T::of_i64(0), row)
 }
@@ -30,7 +31,7 @@ pub(crate) fn is_nonzero<T: Scalar>(value: T) -> bool
 pub(crate) fn turned<T: Scalar>(alloc: Global, form: &Row<T>, row: Row<T>) -> Result<Row<T>, Num>
     requires width { length form.now ≡ length row }
     requires nonzero { dot form.now row ≢ pos 0 }
-    ensures { IfOk result (IsTurned form.now row) }
+    ensures { MatchResult result (IsTurned form.now row) (λ e. e ≡ Num.Range → AreLargeFor T.HALF form.now (row ∷ [])) }
 {
     let value = match form.dot(&row) {
         Some(value) => value,
@@ -60,7 +61,7 @@ fn leads_positive<T: Scalar>(row: &Row<T>) -> bool
 /// The row or its opposite, whichever has a positive first nonzero entry.
 pub(crate) fn led<T: Scalar>(alloc: Global, row: &Row<T>) -> Result<Row<T>, Num>
     requires { IsNonzero row.now }
-    ensures { IfOk result (λ r. LeadsPositive r × ((r ≡ row.now) ⊎ (r ≡ opposite row.now))) }
+    ensures { MatchResult result (λ r. LeadsPositive r × ((r ≡ row.now) ⊎ (r ≡ opposite row.now))) (λ e. e ≡ Num.Range → T.HALF <ℤ pos (measure row.now)) }
 {
     if leads_positive(row) {
         match row.try_copy() {

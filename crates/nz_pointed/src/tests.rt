@@ -2,7 +2,7 @@ ghost use Rattle.std.specs.Prelude.{◌≡◌, IfOk, length};
 ghost use Rattle.std.specs.List.{AllByRecursion as Each};
 ghost use Rattle.nz_spec.specs.Vectors.{HasWidth};
 
-use crate::{Pointed, start};
+use crate::{Pointed, equations_of, start};
 use nz_vec::{Row, Rows, Scalar};
 use std::alloc::Global;
 use std::process::Abort;
@@ -114,8 +114,34 @@ fn starts<T: Scalar>(rt: &impl Abort, alloc: Global) -> Result<(), Fail> {
     Ok(())
 }
 
+// Three rows on two coordinates, how many equations they have, and the first: its column and its form.
+const DESCRIBED: [([[i64; 2]; 3], usize, usize, [i64; 2]); 3] = [
+    ([[1, 2], [2, 4], [0, 0]], 1, 1, [-2, 1]),
+    ([[0, 3], [0, -1], [0, 2]], 1, 0, [1, 0]),
+    ([[0, 0], [0, 0], [0, 0]], 2, 0, [1, 0]),
+];
+
+fn describes<T: Scalar>(rt: &impl Abort, alloc: Global) -> Result<(), Fail> {
+    for (entries, count, column, form) in DESCRIBED {
+        let rows = match rows_of::<T>(alloc, entries) {
+            Ok(rows) => rows,
+            Err(fail) => return Err(fail),
+        };
+        let equations = equations_of(alloc, &rows, 2).or(Err("refused"))?;
+        assert!(rt; equations.columns.len() == count && equations.forms.len() == count);
+        if count > 0 {
+            assert!(rt; equations.columns.len() > 0 && equations.forms.len() > 0);
+            let is_wanted = equations.columns.at(0) == column && reads(equations.forms.at(0), form);
+            assert!(rt; is_wanted);
+        }
+    }
+    Ok(())
+}
+
 #[test]
 fn worked_rows(rt: HostRuntime) -> Result<(), Fail> {
     starts::<i64>(&rt, rt.alloc())?;
-    starts::<i128>(&rt, rt.alloc())
+    starts::<i128>(&rt, rt.alloc())?;
+    describes::<i64>(&rt, rt.alloc())?;
+    describes::<i128>(&rt, rt.alloc())
 }

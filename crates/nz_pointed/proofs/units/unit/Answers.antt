@@ -1,4 +1,4 @@
-use Rattle.std.proofs.Common.{◌+◌, ap, ◌∙◌, sym, arith}
+use Rattle.std.proofs.Common.{◌+◌, ap, ◌∙◌, arith}
 use Rattle.nz_pointed.proofs.UnitLemmas.{entry_more, entries_all}
 use Rattle.nz_pointed.proofs.units.unit.Goals as goal
 

@@ -1,4 +1,4 @@
-use Rattle.std.proofs.Common.{refl, sym, ap, ◌∙◌, subst, ◌<◌, ◌≡◌, pos}
+use Rattle.std.proofs.Common.{sym, ap, ◌∙◌}
 use Rattle.nz_spec.specs.Vectors.{entry}
 use Rattle.nz_linear.specs.Echelon.{unit_at}
 use Rattle.nz_linear.proofs.Units.{entry-unit_own, entry-unit_other}

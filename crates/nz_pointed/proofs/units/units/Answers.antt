@@ -1,4 +1,4 @@
-use Rattle.std.proofs.Common.{◌+◌, ap, ◌∙◌, sym, arith, ◌∷◌, [], ◌++◌, List, ℤ}
+use Rattle.std.proofs.Common.{◌+◌, ap, ◌∙◌, arith, ◌∷◌, [], ◌++◌, List, ℤ}
 use Rattle.nz_pointed.proofs.UnitLemmas.{unit_more, units_all}
 use Rattle.nz_pointed.proofs.units.units.Goals as goal
 

@@ -1,4 +1,4 @@
-use Rattle.std.proofs.Common.{◌≡◌, map, take, vec_len}
+use Rattle.std.proofs.Common.{◌≡◌, take, vec_len}
 use Rattle.std.specs.Prelude.{vec_capacity}
 use Rattle.nz_spec.specs.Vectors.{unit_vectors}
 use Rattle.nz_pointed.proofs.units.units.Given as goal

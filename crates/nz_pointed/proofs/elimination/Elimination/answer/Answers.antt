@@ -1,5 +1,5 @@
-use Rattle.std.proofs.Common.{rules, ◌≡◌, ◌<◌, ◌⊎◌, ℕ, List, [], ◌∷◌, length, drop, ℤ, sym, ap, ◌∙◌, subst, arith}
-use Rattle.nz_spec.specs.Vectors.{Vector, opposite}
+use Rattle.std.proofs.Common.{rules, ◌≡◌, ◌<◌, List, length, drop, sym, subst}
+use Rattle.nz_spec.specs.Vectors.{Vector}
 use Rattle.nz_pointed.specs.Pointed.{IsSimplexOf}
 use Rattle.nz_pointed.specs.Elimination.{IsElimination}
 use Rattle.nz_pointed.proofs.ListLemmas.{from_first, none_of}

@@ -1,6 +1,0 @@
-use Rattle.std.proofs.Common.{take}
-use Rattle.nz_pointed.specs.Elimination.{IsElimination}
-use Rattle.nz_pointed.proofs.starting.start.Given as goal
-
-abbrev pub invariant-loop-place : goal.invariant-loop-place
-invariant-loop-place g l = IsElimination l.rank (take l.place l.rows) l.elimination.places l.elimination.chosen.items l.elimination.left.items
