@@ -9,7 +9,7 @@ use Rattle.nz_edge.specs.Answers.{OnTold, LoadGives, StoreLeaves, PutAll}
 use Rattle.nz_edge.specs.declared.folder.Load.TheVariants as load
 use Rattle.nz_edge.specs.declared.folder.Stored.TheVariants as stored
 use Rattle.nz_run.specs.declared.status.Status.{Status}
-use Rattle.nz_run.specs.declared.status.Status.TheVariants.{Done, Usage, Absent, ReadFault, TooLong, Grammar, NotBuilt, Crowded, WriteFault, NoMemory}
+use Rattle.nz_run.specs.declared.status.Status.TheVariants.{Done, Usage, Absent, ReadFault, TooLong, Grammar, Meaning, NotBuilt, Crowded, WriteFault, NoMemory}
 use Rattle.nz_run.specs.Words.{AreWordsFor, AreRefused, input_name, output_name}
 use Rattle.nz_run.specs.Statuses.{status_line}
 use Rattle.nz_run.specs.Runs.{most, IsInput, IsSolved, IsCause, IsCauseOrMemory, Leaves, ExplainsFor, Explains, CountRose, StoreCount, PutsLine}
@@ -38,6 +38,7 @@ explains project input f f' Absent a b c h i s = absurd s.0
 explains project input f f' ReadFault a b c h i s = absurd s.0
 explains project input f f' TooLong a b c h i s = (input, i, (s.0, same_trans a b c h s.1))
 explains project input f f' (Grammar l k g) a b c h i s = (input, i, (s.0, same_trans a b c h s.1))
+explains project input f f' (Meaning l k g) a b c h i s = (input, i, (s.0, same_trans a b c h s.1))
 explains project input f f' (NotBuilt w) a b c h i s = (input, i, (s.0, same_trans a b c h s.1))
 explains project input f f' Crowded a b c h i s = (input, i, (s.0, same_trans a b c h s.1))
 explains project input f f' WriteFault a b c h i s = (input, i, (s.0, s.1, others_trans (output_name project) a b c h s.2))
@@ -71,6 +72,7 @@ refused_before name input r o n h e = subst (λ (m : Option Files). BothTold o m
     same ReadFault h a = absurd h
     same TooLong h a = (h, λ t. refl)
     same (Grammar l k g) h a = (h, λ t. refl)
+    same (Meaning l k g) h a = (h, λ t. refl)
     same (NotBuilt w) h a = (h, λ t. refl)
     same Crowded h a = (h, λ t. refl)
     same WriteFault h a = absurd h
@@ -89,6 +91,7 @@ refused_count input Absent a b h = h
 refused_count input ReadFault a b h = h
 refused_count input TooLong a b h = tt
 refused_count input (Grammar l k g) a b h = tt
+refused_count input (Meaning l k g) a b h = tt
 refused_count input (NotBuilt w) a b h = tt
 refused_count input Crowded a b h = tt
 refused_count input WriteFault a b h = absurd h
@@ -101,6 +104,7 @@ count_of_store Absent f f' m m' s s' t t' d e h = absurd h
 count_of_store ReadFault f f' m m' s s' t t' d e h = absurd h
 count_of_store TooLong f f' m m' s s' t t' d e h = tt
 count_of_store (Grammar l k g) f f' m m' s s' t t' d e h = tt
+count_of_store (Meaning l k g) f f' m m' s s' t t' d e h = tt
 count_of_store (NotBuilt w) f f' m m' s s' t t' d e h = tt
 count_of_store Crowded f f' m m' s s' t t' d e h = tt
 count_of_store WriteFault f f' m m' s s' t t' d e h = rw (d, e) h
@@ -119,6 +123,7 @@ explains_words words project f f' r o n w u h = told_weaker o n (ExplainsFor pro
     go ReadFault u a b h = (project, w, h)
     go TooLong u a b h = (project, w, h)
     go (Grammar l k g) u a b h = (project, w, h)
+    go (Meaning l k g) u a b h = (project, w, h)
     go (NotBuilt v) u a b h = (project, w, h)
     go Crowded u a b h = (project, w, h)
     go WriteFault u a b h = (project, w, h)

@@ -34,8 +34,3 @@ first_not P (y ∷ ys) zero x h e n = record { before = []; after = ys; whole = 
 first_not P (y ∷ ys) (suc k) x h e n =
     let r = first_not P ys k x (λ i m. h (suc i) (omega arith)) e n in
     record { before = y ∷ r.before; after = r.after; whole = ap (λ zs. y ∷ zs) r.whole; are = (h 0 (omega arith) y refl, r.are); not = n }
-
-pub each_got : {A : Type 0} (P : A → Type 0) (xs : List A) (k : ℕ) (x : A) → Each P xs → slice_get xs k ≡ Some x → P x
-each_got P [] k x h e = absurd (cc)
-each_got P (y ∷ ys) zero x h e = (let s : y ≡ x = cc in subst P s h.0)
-each_got P (y ∷ ys) (suc k) x h e = each_got P ys k x h.1 e

@@ -2,4 +2,5 @@ pub mod WordsLemmas
 pub mod Composing
 pub mod Pieces
 pub mod Firsts
+pub mod BuiltSystems
 pub mod BuiltRows

@@ -6,10 +6,8 @@ use Rattle.nz_vec.specs.Texts.{Text}
 use Rattle.nz_edge.specs.Folders.{BothTold}
 use Rattle.nz_edge.specs.Answers.{PutAll}
 use Rattle.std.specs.Prelude.{codes, decimal}
-use Rattle.nz_input.specs.declared.refusal.Fault.{Fault}
 use Rattle.nz_blocks.specs.Output.{line}
-use Rattle.nz_run.specs.declared.status.Status.TheVariants.{Grammar}
-use Rattle.nz_run.specs.Statuses.{status_line, fault_name}
+use Rattle.nz_run.specs.Statuses.{place_line}
 
 -- the first piece was taken whole, and then the second, or some first bytes of it
 pub then_more : (a b : Text) (r : Bool) (o m n : Option Text) → BothTold o m (λ old new. PutAll old new a true) → BothTold m n (λ old new. PutAll old new b r) → BothTold o n (λ old new. PutAll old new (a ++ b) r)
@@ -46,5 +44,5 @@ stopped a b (Some x) (Some y) h = (let c = cut a b h.0 in (c.0, h.1 ∙ ap (λ (
 pub put_same : (a b : Text) (r : Bool) (o m : Option Text) → a ≡ b → BothTold o m (λ old new. PutAll old new a r) → BothTold o m (λ old new. PutAll old new b r)
 put_same a b r o m e h = subst (λ (t : Text). BothTold o m (λ old new. PutAll old new t r)) e h
 
-pub place_text : (l c : ℕ) (f : Fault) → (codes "line " ++ decimal l) ++ ((codes " column " ++ decimal c) ++ line (codes ": " ++ fault_name f)) ≡ status_line (Grammar l c f)
-place_text l c f = simp append_assoc
+pub place_text : (first : Text) (m : ℕ) (second : Text) (n : ℕ) (fault : Text) → (first ++ decimal m) ++ ((second ++ decimal n) ++ line (codes ": " ++ fault)) ≡ place_line first m second n fault
+place_text first m second n fault = simp append_assoc

@@ -1,23 +1,16 @@
 -- What the program solves today, and the word that names what it does not.
-use Rattle.std.specs.Prelude.{◌≡◌, List, ◌∷◌, ◌++◌, pos, ◌≤ℤ◌}
+use Rattle.std.specs.Prelude.{◌≡◌, List, ◌∷◌, ◌++◌}
 use Rattle.std.specs.List.{AllByRecursion as Each}
-use Rattle.nz_spec.specs.Vectors.{Vector}
 use Rattle.nz_input.specs.Files.{ItemData, FileData}
 use Rattle.nz_input.specs.declared.kind.Kind.TheVariants.{Congruences}
 use Rattle.nz_input.specs.declared.kind.Goal.{Goal}
 use Rattle.nz_input.specs.declared.kind.Goal.TheVariants.{HilbertBasis}
-use Rattle.nz_box.specs.Congruences.{congruence_of}
 use Rattle.nz_run.specs.declared.built.Keyword.{Keyword}
 use Rattle.nz_run.specs.declared.built.Keyword.TheVariants as keyword
 
--- the modulus of the row is at least 1
-abbrev pub HasModulus : Vector → Type 0
-HasModulus r = pos 1 ≤ℤ (congruence_of r).modulus
-
--- congruences, each with a modulus of at least 1
-pub record IsBuiltItem (item : ItemData) : Type 0 where
-  pub kind : item.kind ≡ Congruences
-  pub moduli : Each HasModulus item.rows
+-- congruences
+abbrev pub IsBuiltItem : ItemData → Type 0
+IsBuiltItem item = item.kind ≡ Congruences
 
 -- the Hilbert basis is asked
 abbrev pub IsBuiltGoal : Goal → Type 0

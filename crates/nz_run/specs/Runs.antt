@@ -1,21 +1,23 @@
 -- What a run leaves, status by status.
-use Rattle.std.specs.Prelude.{◌≡◌, ◌⊎◌, ℕ, ◌+◌, ◌<◌, ◌≤◌, false, ◌++◌, List, length, take, Option, Some, None}
+use Rattle.std.specs.Prelude.{◌≡◌, ◌⊎◌, ℕ, ◌+◌, ◌<◌, ◌≤◌, false, ◌++◌, List, [], length, take, Option, Some, None, Err}
 use Rattle.nz_vec.specs.Texts.{Text}
 use Rattle.nz_spec.specs.Vectors.{Vector}
 use Rattle.nz_spec.specs.Elements.{IsHilbertBasis}
 use Rattle.nz_input.specs.Files.{FileData}
 use Rattle.nz_input.specs.Texts.{IsTextOf}
 use Rattle.nz_input.specs.Refusals.{IsRefusedAt}
+use Rattle.nz_system.specs.Meaning.{system_of, IsMeaning}
+use Rattle.nz_system.specs.declared.refusal.SystemRefusal.TheVariants as refusal
 use Rattle.nz_box.specs.Sides.{IsCrowded}
 use Rattle.nz_blocks.specs.Output.{text_of}
 use Rattle.nz_edge.specs.Folders.{Files, SameFiles, SameOthers, Stores}
 use Rattle.nz_edge.specs.Counts.{IsQuiet, Rose}
 use Rattle.nz_run.specs.Words.{AreWordsFor, AreRefused, input_name, output_name}
-use Rattle.nz_run.specs.FileSystems.{system_of}
+use Rattle.nz_run.specs.FileSystems.{HasMeaning}
 use Rattle.nz_run.specs.Built.{IsBuilt, IsFirstUnbuilt}
 use Rattle.nz_run.specs.Statuses.{status_line}
 use Rattle.nz_run.specs.declared.status.Status.{Status}
-use Rattle.nz_run.specs.declared.status.Status.TheVariants.{Done, Usage, Absent, ReadFault, TooLong, Grammar, NotBuilt, Crowded, WriteFault, NoMemory}
+use Rattle.nz_run.specs.declared.status.Status.TheVariants.{Done, Usage, Absent, ReadFault, TooLong, Grammar, Meaning, NotBuilt, Crowded, WriteFault, NoMemory}
 
 -- the most bytes of an input
 abbrev pub most : ℕ
@@ -31,10 +33,11 @@ pub record IsInput (project : Text) (files : Files) (input : Text) : Type 0 wher
 abbrev pub IsShort : Text → Type 0
 IsShort input = length input ≤ most
 
--- the input is a text of this file, of which everything is built
+-- the input is a text of this file, which breaks no rule of meaning and of which everything is built
 pub record IsReadAs (input : Text) (file : FileData) : Type 0 where
   pub short : IsShort input
   pub read : IsTextOf input file
+  pub meaning : HasMeaning file
   pub built : IsBuilt file
 
 -- the output is the text of the list of exactly the irreducible elements of the monoid that the file defines, each once, in order
@@ -50,12 +53,27 @@ pub record IsSolved (input output : Text) : Type 0 where
   pub read : IsReadAs input file
   pub answered : IsAnswered file output
 
+-- the file is the cause of the status
+abbrev pub IsCauseIn : FileData → Status → Type 0
+IsCauseIn file (Meaning i r f) = IsMeaning file [] (Err (refusal.Meaning i r f))
+IsCauseIn file (NotBuilt word) = HasMeaning file × IsFirstUnbuilt file word
+IsCauseIn file Crowded = HasMeaning file × IsBuilt file × IsCrowded (system_of file)
+IsCauseIn file status = ⊥
+
+-- the input is a text of a file that is the cause of the status
+pub record IsReadCause (input : Text) (status : Status) : Type 0 where
+  pub file : FileData
+  pub short : IsShort input
+  pub read : IsTextOf input file
+  pub cause : IsCauseIn file status
+
 -- the input is the cause of the status
 abbrev pub IsCause : Text → Status → Type 0
 IsCause input TooLong = most < length input
 IsCause input (Grammar l c f) = IsShort input × IsRefusedAt input l c f
-IsCause input (NotBuilt word) = IsShort input × (file : FileData) × IsTextOf input file × IsFirstUnbuilt file word
-IsCause input Crowded = (file : FileData) × IsReadAs input file × IsCrowded (system_of file)
+IsCause input (Meaning i r f) = IsReadCause input (Meaning i r f)
+IsCause input (NotBuilt word) = IsReadCause input (NotBuilt word)
+IsCause input Crowded = IsReadCause input Crowded
 IsCause input Done = ⊥
 IsCause input Usage = ⊥
 IsCause input Absent = ⊥
@@ -67,6 +85,11 @@ IsCause input NoMemory = ⊥
 abbrev pub IsCauseOrMemory : Text → Status → Type 0
 IsCauseOrMemory input NoMemory = Unit {0}
 IsCauseOrMemory input status = IsCause input status
+
+-- the file is the cause of the status, or memory ran out
+abbrev pub IsCauseInOrMemory : FileData → Status → Type 0
+IsCauseInOrMemory file NoMemory = Unit {0}
+IsCauseInOrMemory file status = IsCauseIn file status
 
 -- what the status says of the input and of the files before and after it was solved; the name is that of the output
 abbrev pub Leaves : Text → Text → Status → Files → Files → Type 0

@@ -4,11 +4,13 @@ use Rattle.nz_vec.specs.Texts.{Text}
 use Rattle.nz_input.specs.declared.refusal.Fault.{Fault}
 use Rattle.nz_input.specs.declared.refusal.Fault.TheVariants as fault
 use Rattle.nz_input.specs.Words.{keyword, goal_word}
+use Rattle.nz_system.specs.declared.refusal.MeaningFault.{MeaningFault}
+use Rattle.nz_system.specs.declared.refusal.MeaningFault.TheVariants as rule
 use Rattle.nz_blocks.specs.Output.{line}
 use Rattle.nz_run.specs.declared.built.Keyword.{Keyword}
 use Rattle.nz_run.specs.declared.built.Keyword.TheVariants as word
 use Rattle.nz_run.specs.declared.status.Status.{Status}
-use Rattle.nz_run.specs.declared.status.Status.TheVariants.{Done, Usage, Absent, ReadFault, TooLong, Grammar, NotBuilt, Crowded, WriteFault, NoMemory}
+use Rattle.nz_run.specs.declared.status.Status.TheVariants.{Done, Usage, Absent, ReadFault, TooLong, Grammar, Meaning, NotBuilt, Crowded, WriteFault, NoMemory}
 
 -- the exit status of the program
 abbrev pub code_of : Status → ℕ
@@ -18,6 +20,7 @@ code_of Absent = 3
 code_of ReadFault = 4
 code_of TooLong = 5
 code_of (Grammar l c f) = 6
+code_of (Meaning i r f) = 7
 code_of WriteFault = 13
 code_of NoMemory = 14
 code_of (NotBuilt w) = 15
@@ -34,10 +37,25 @@ fault_name fault.TooMany = codes "TooMany"
 fault_name fault.OpenComment = codes "OpenComment"
 fault_name fault.Byte = codes "Byte"
 
+-- the name of a rule of meaning
+abbrev pub rule_name : MeaningFault → Text
+rule_name rule.RowLimit = codes "RowLimit"
+rule_name rule.Modulus = codes "Modulus"
+rule_name rule.Sign = codes "Sign"
+rule_name rule.Denominator = codes "Denominator"
+rule_name rule.Repeated = codes "Repeated"
+rule_name rule.Mixed = codes "Mixed"
+rule_name rule.NoGrading = codes "NoGrading"
+rule_name rule.NoLevel = codes "NoLevel"
+
 -- the keyword or goal word
 abbrev pub word_of : Keyword → Text
 word_of (word.Item kind) = keyword kind
 word_of (word.Goal goal) = goal_word goal
+
+-- two labels, each with its number, and what is wrong there
+abbrev pub place_line : Text → ℕ → Text → ℕ → Text → Text
+place_line first m second n fault = line (first ++ decimal m ++ second ++ decimal n ++ codes ": " ++ fault)
 
 -- the line on the console
 abbrev pub status_line : Status → Text
@@ -46,7 +64,8 @@ status_line Usage = line (codes "usage: nmz [options] PROJECT")
 status_line Absent = line (codes "no input file")
 status_line ReadFault = line (codes "read fault")
 status_line TooLong = line (codes "input too long")
-status_line (Grammar l c f) = line (codes "line " ++ decimal l ++ codes " column " ++ decimal c ++ codes ": " ++ fault_name f)
+status_line (Grammar l c f) = place_line (codes "line ") l (codes " column ") c (fault_name f)
+status_line (Meaning i r f) = place_line (codes "item ") i (codes " row ") r (rule_name f)
 status_line (NotBuilt w) = line (codes "not built: " ++ word_of w)
 status_line Crowded = line (codes "crowded")
 status_line WriteFault = line (codes "write fault")

@@ -1,11 +1,10 @@
 //! What the program solves today.
-ghost use Rattle.std.specs.Prelude.{◌≡◌, ◌↔◌, ◌<◌, IsTrue, MatchOption, length};
+ghost use Rattle.std.specs.Prelude.{◌≡◌, ◌↔◌, IsTrue, MatchOption};
 ghost use Rattle.std.specs.List.{AllByRecursion as Each};
-ghost use Rattle.nz_input.specs.Files.{ItemData, IsItem, IsFile};
-ghost use Rattle.nz_run.specs.Built.{HasModulus, IsBuiltItem, IsBuiltGoal, IsBuilt, IsFirstNot, IsFirstUnbuilt};
+ghost use Rattle.nz_input.specs.Files.{ItemData};
+ghost use Rattle.nz_run.specs.Built.{IsBuiltItem, IsBuiltGoal, IsBuilt, IsFirstNot, IsFirstUnbuilt};
 
 use nz_input::{File, Goal, Goals, Item, Items, Kind};
-use nz_vec::{Row, Rows};
 
 /// The word of an item or a goal.
 #[derive(Clone, Copy, Debug, PartialEq, Eq, Drop)]
@@ -28,49 +27,17 @@ impl Keyword {
     }
 }
 
-// The last entry of a congruence is its modulus.
-fn has_modulus(row: &Row<i64>) -> bool
-    requires { 0 < length row.now }
-    ensures { IsTrue result ↔ HasModulus row.now }
+fn is_built_item(item: &Item) -> bool
+    ensures { IsTrue result ↔ IsBuiltItem item.now }
 {
-    row.at(row.len() - 1) >= 1
-}
-
-fn has_moduli(rows: &Rows<i64>) -> bool
-    requires { Each (λ r. 0 < length r) rows.now }
-    ensures { IsTrue result ↔ Each HasModulus rows.now }
-{
-    for place in 0..rows.len() {
-        if !has_modulus(rows.at(place)) {
-            return false;
-        }
-    }
-    true
-}
-
-fn is_congruences(kind: Kind) -> bool
-    ensures { IsTrue result ↔ (kind ≡ Kind.Congruences) }
-{
-    match kind {
+    match item.kind {
         Kind::Congruences => true,
         _ => false,
     }
 }
 
-fn is_built_item(item: &Item) -> bool
-    requires { Each (λ r. 0 < length r) item.now.rows }
-    ensures { IsTrue result ↔ IsBuiltItem item.now }
-{
-    if is_congruences(item.kind) {
-        has_moduli(&item.rows)
-    } else {
-        false
-    }
-}
-
 // The kind of the first item that is not built.
 fn unbuilt_item(items: &Items) -> Option<Kind>
-    requires { Each (λ item. Each (λ r. 0 < length r) item.rows) items.now }
     ensures { MatchOption result (Each IsBuiltItem items.now) (λ kind. (item : ItemData) × IsFirstNot IsBuiltItem items.now item × (item.kind ≡ kind)) }
 {
     for place in 0..items.len() {
@@ -108,7 +75,6 @@ fn unbuilt_goal(goals: &Goals) -> Option<Goal>
 pub fn first_unbuilt(file: &File) -> Option<Keyword>
     ensures { MatchOption result (IsBuilt file.now) (IsFirstUnbuilt file.now) }
 {
-    file.kept();
     match unbuilt_item(&file.items) {
         Some(kind) => Some(Keyword::Item(kind)),
         None => match unbuilt_goal(&file.goals) {

@@ -1,17 +1,19 @@
 //! From the bytes of the input to the bytes of the output.
 ghost use Rattle.std.specs.Prelude.{◌≡◌, ◌≤◌, ◌++◌, IfOk, IfErr, OnOk, Err};
 ghost use Rattle.nz_spec.specs.Elements.{IsHilbertBasis};
+ghost use Rattle.nz_system.specs.Meaning.{system_of};
 ghost use Rattle.nz_box.specs.Sides.{IsCrowded};
 ghost use Rattle.nz_blocks.specs.Output.{text_of};
-ghost use Rattle.nz_run.specs.FileSystems.{rows_of, system_of};
+ghost use Rattle.nz_run.specs.FileSystems.{rows_of, HasMeaning};
 ghost use Rattle.nz_run.specs.Built.{IsBuilt};
-ghost use Rattle.nz_run.specs.Runs.{IsReadAs, IsSolved, IsCauseOrMemory, IsAnswered, Decided};
+ghost use Rattle.nz_run.specs.Runs.{IsReadAs, IsSolved, IsCauseInOrMemory, IsCauseOrMemory, IsAnswered, Decided};
 
 use crate::Status;
 use crate::built::first_unbuilt;
 use nz_blocks::{Outcome, blocks};
 use nz_box::{Refusal, irreducibles};
-use nz_input::{File, Items, ReadRefusal, read};
+use nz_input::{File, Goals, Items, ReadRefusal, read};
+use nz_system::{SystemRefusal, system_of};
 use nz_vec::{Bytes, NoMemory, Rows};
 use std::alloc::Global;
 
@@ -40,7 +42,8 @@ fn all_rows(alloc: Global, items: &Items) -> Result<Rows<i64>, NoMemory>
 
 // The text for a file of which everything is built.
 fn answer(alloc: Global, file: &File) -> Result<Bytes, Status>
-    requires { IsBuilt file.now }
+    requires meaning { HasMeaning file.now }
+    requires built { IsBuilt file.now }
     ensures ok { IfOk result (IsAnswered file.now) }
     ensures crowded { result ≡ Err Status.Crowded → IsCrowded (system_of file.now) }
     ensures others { IfErr result (λ status. Decided status Status.Crowded) }
@@ -63,6 +66,33 @@ fn answer(alloc: Global, file: &File) -> Result<Bytes, Status>
     match blocks(alloc, &outcome) {
         Ok(text) => Ok(text),
         Err(_) => Err(Status::NoMemory),
+    }
+}
+
+// The text for a file with a meaning.
+fn meant(alloc: Global, file: &File) -> Result<Bytes, Status>
+    requires { HasMeaning file.now }
+    ensures ok { IfOk result (λ text. IsBuilt file.now × IsAnswered file.now text) }
+    ensures err { IfErr result (IsCauseInOrMemory file.now) }
+{
+    match first_unbuilt(file) {
+        Some(word) => Err(Status::NotBuilt(word)),
+        None => answer(alloc, file),
+    }
+}
+
+// The text for a file.
+fn file_solved(alloc: Global, file: &File) -> Result<Bytes, Status>
+    ensures ok { IfOk result (λ text. HasMeaning file.now × IsBuilt file.now × IsAnswered file.now text) }
+    ensures err { IfErr result (IsCauseInOrMemory file.now) }
+{
+    let words = Goals::new(alloc);
+    match system_of(alloc, file, &words) {
+        Ok(_system) => meant(alloc, file),
+        Err(SystemRefusal::Meaning { item, row, fault }) => {
+            Err(Status::Meaning { item, row, fault })
+        }
+        Err(SystemRefusal::NoMemory) => Err(Status::NoMemory),
     }
 }
 
@@ -89,8 +119,5 @@ pub fn solved(alloc: Global, input: &[u8]) -> Result<Bytes, Status>
         }),
         Err(ReadRefusal::NoMemory) => return Err(Status::NoMemory),
     };
-    match first_unbuilt(&file) {
-        Some(word) => Err(Status::NotBuilt(word)),
-        None => answer(alloc, &file),
-    }
+    file_solved(alloc, &file)
 }

@@ -2,6 +2,7 @@ ghost use Rattle.std.specs.Prelude.{◌≡◌};
 
 use crate::Keyword;
 use nz_input::Fault;
+use nz_system::MeaningFault;
 
 /// What a run ends with. On every status but `Done` and `WriteFault` the files are as before.
 #[derive(Clone, Copy, Debug, PartialEq, Eq, Drop)]
@@ -21,6 +22,12 @@ pub enum Status {
         line: u64,
         column: u64,
         fault: Fault,
+    },
+    /// The file breaks a rule of meaning. Items and their rows count from 1; row 0 is the item, item 0 the file.
+    Meaning {
+        item: u64,
+        row: u32,
+        fault: MeaningFault,
     },
     /// The file has an item or a goal that the program does not solve yet.
     NotBuilt(Keyword),
@@ -46,6 +53,7 @@ impl Status {
             Status::ReadFault => 4,
             Status::TooLong => 5,
             Status::Grammar { .. } => 6,
+            Status::Meaning { .. } => 7,
             Status::WriteFault => 13,
             Status::NoMemory => 14,
             Status::NotBuilt(_) => 15,

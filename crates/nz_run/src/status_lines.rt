@@ -4,12 +4,13 @@ ghost use Rattle.nz_edge.specs.Counts.{Rose};
 ghost use Rattle.nz_edge.specs.Folders.{BothTold};
 ghost use Rattle.nz_edge.specs.Answers.{PutAll};
 ghost use Rattle.nz_blocks.specs.Output.{line};
-ghost use Rattle.nz_run.specs.Statuses.{fault_name, status_line};
+ghost use Rattle.nz_run.specs.Statuses.{fault_name, rule_name, place_line, status_line};
 
 use crate::Status;
 use itoa::Buffer;
 use nz_edge::{Sink, put_all};
 use nz_input::Fault;
+use nz_system::MeaningFault;
 
 fn name_of(fault: Fault) -> &'static [u8]
     ensures { result.now ≡ fault_name fault }
@@ -23,6 +24,21 @@ fn name_of(fault: Fault) -> &'static [u8]
         Fault::TooMany => b"TooMany".as_slice(),
         Fault::OpenComment => b"OpenComment".as_slice(),
         Fault::Byte => b"Byte".as_slice(),
+    }
+}
+
+fn rule_name(fault: MeaningFault) -> &'static [u8]
+    ensures { result.now ≡ rule_name fault }
+{
+    match fault {
+        MeaningFault::RowLimit => b"RowLimit".as_slice(),
+        MeaningFault::Modulus => b"Modulus".as_slice(),
+        MeaningFault::Sign => b"Sign".as_slice(),
+        MeaningFault::Denominator => b"Denominator".as_slice(),
+        MeaningFault::Repeated => b"Repeated".as_slice(),
+        MeaningFault::Mixed => b"Mixed".as_slice(),
+        MeaningFault::NoGrading => b"NoGrading".as_slice(),
+        MeaningFault::NoLevel => b"NoLevel".as_slice(),
     }
 }
 
@@ -62,19 +78,26 @@ fn put_text<S: Sink>(console: &mut S, label: &[u8], text: &[u8]) -> bool
     }
 }
 
-// Where the input is no text, and why.
-fn put_place<S: Sink>(console: &mut S, row: u64, column: u64, fault: Fault) -> bool
-    ensures written { BothTold (S.written console.old) (S.written console.new) (λ old new. PutAll old new (status_line (Status.Grammar row column fault)) result) }
+// A place, and what is wrong there.
+fn put_place<S: Sink>(
+    console: &mut S,
+    first: &[u8],
+    row: u64,
+    second: &[u8],
+    column: u64,
+    fault: &[u8],
+) -> bool
+    ensures written { BothTold (S.written console.old) (S.written console.new) (λ old new. PutAll old new (place_line first.now row second.now column fault.now) result) }
     ensures cause { IsFalse result → Rose (S.faults console.old) (S.faults console.new) }
     ensures later { S.faults console.old ≤ S.faults console.new }
 {
-    if !put_number(console, b"line ", row) {
+    if !put_number(console, first, row) {
         return false;
     }
-    if !put_number(console, b" column ", column) {
+    if !put_number(console, second, column) {
         return false;
     }
-    put_text(console, b": ", name_of(fault))
+    put_text(console, b": ", fault)
 }
 
 /// Writes the line of the status. False only where the console had a fault; some first bytes of the line were written then.
@@ -88,7 +111,15 @@ pub fn put_status<S: Sink>(console: &mut S, status: Status) -> bool
             line,
             column,
             fault,
-        } => put_place(console, line, column, fault),
+        } => put_place(console, b"line ", line, b" column ", column, name_of(fault)),
+        Status::Meaning { item, row, fault } => put_place(
+            console,
+            b"item ",
+            item,
+            b" row ",
+            u64::from(row),
+            rule_name(fault),
+        ),
         Status::NotBuilt(keyword) => put_text(console, b"not built: ", keyword.word()),
         Status::Done => put_all(console, b"done\n"),
         Status::Usage => put_all(console, b"usage: nmz [options] PROJECT\n"),

@@ -1,12 +1,8 @@
 use Rattle.std.proofs.Common.{◌≡◌, ◌≤◌, length, arith, refl, sym, ap}
 use Rattle.nz_input.specs.Files.{ItemData}
 use Rattle.nz_run.specs.Built.{IsBuiltItem}
-use Rattle.nz_run.proofs.BuiltRows.{HasEntries}
-use Rattle.nz_run.proofs.Firsts.{holds_none, holds_more, holds_all, first_not, each_got}
+use Rattle.nz_run.proofs.Firsts.{holds_none, holds_more, holds_all, first_not}
 use Rattle.nz_run.proofs.built.unbuilt_item.Goals as goal
-
-pub is_built_item-requires : goal.is_built_item-requires
-is_built_item-requires c = each_got HasEntries c.args.items.now c.loop-place.place c.at-item.result.now c.requires c.at-item.ensures
 
 pub loop-place-init : goal.loop-place-init
 loop-place-init c = holds_none IsBuiltItem c.args.items.now

@@ -1,11 +1,22 @@
-use Rattle.std.proofs.Common.{◌++◌, ap, sym, ◌∙◌}
+use Rattle.std.proofs.Common.{◌≡◌, ◌++◌, ap, sym, ◌∙◌, rules}
 use Rattle.std.specs.Prelude.{codes}
 use Rattle.nz_vec.specs.Texts.{Text}
 use Rattle.nz_blocks.specs.Output.{line}
-use Rattle.nz_run.specs.Statuses.{status_line}
+use Rattle.nz_run.specs.Statuses.{rule_name, place_line, status_line}
 use Rattle.nz_run.specs.declared.status.Status.TheVariants.{Usage, Absent, ReadFault, TooLong, WriteFault, NoMemory, Crowded}
 use Rattle.nz_run.proofs.Pieces.{put_same}
 use Rattle.nz_run.proofs.status_lines.put_status.Goals as goal
+
+pub returns-in-Grammar-clause-written : goal.returns-in-Grammar-clause-written
+returns-in-Grammar-clause-written g c =
+    put_same (place_line (codes "line ") c.in-Grammar.line (codes " column ") c.in-Grammar.column c.name_of.result.now) (status_line c.args.status) c.put_place.result (g.S.Sink.written c.args.console.now) (g.S.Sink.written c.put_place.new.console)
+    (ap (λ (t : Text). place_line (codes "line ") c.in-Grammar.line (codes " column ") c.in-Grammar.column t) c.name_of.ensures ∙ ap status_line (sym c.in-Grammar.is)) c.put_place.ensures.written
+
+pub returns-in-Meaning-clause-written : goal.returns-in-Meaning-clause-written
+returns-in-Meaning-clause-written g c =
+    let same : c.from.result ≡ c.in-Meaning.row = search (rules, c.from.ensures) in
+    put_same (place_line (codes "item ") c.in-Meaning.item (codes " row ") c.from.result c.rule_name.result.now) (status_line c.args.status) c.put_place-in-Meaning.result (g.S.Sink.written c.args.console.now) (g.S.Sink.written c.put_place-in-Meaning.new.console)
+    (ap (λ (t : Text). place_line (codes "item ") c.in-Meaning.item (codes " row ") c.from.result t) c.rule_name.ensures ∙ ap (λ n. place_line (codes "item ") c.in-Meaning.item (codes " row ") n (rule_name c.in-Meaning.fault)) same ∙ ap status_line (sym c.in-Meaning.is)) c.put_place-in-Meaning.ensures.written
 
 pub returns-in-NotBuilt-clause-written : goal.returns-in-NotBuilt-clause-written
 returns-in-NotBuilt-clause-written g c =
