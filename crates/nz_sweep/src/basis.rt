@@ -1,9 +1,11 @@
-ghost use Rattle.std.specs.Prelude.{◌≡◌, ◌<◌, ℤ, IfOk, MatchResult, length};
+ghost use Rattle.std.specs.Prelude.{◌≡◌, ◌<◌, ℤ, pos, IfOk, OnOk, OnErr, MatchResult, length};
 ghost use Rattle.std.specs.List.{AllByRecursion as Each};
-ghost use Rattle.nz_spec.specs.Vectors.{combination, unit_vectors, HasWidth};
+ghost use Rattle.nz_spec.specs.Vectors.{combination, dot, unit_vectors, HasWidth};
 ghost use Rattle.nz_linear.specs.Coordinates.{in_coordinates};
 ghost use Rattle.nz_sweep.specs.Bases.{IsBase, column_of, CombinationSumsFit, ValueSumsFit};
+ghost use Rattle.nz_sweep.specs.Cuts.{IsCut, IsEquationStep};
 
+use crate::cutting::zeros;
 use crate::units::units;
 use nz_vec::{NoMemory, Num, Row, Scalar};
 use std::alloc::Global;
@@ -43,6 +45,25 @@ impl<T: Scalar> Basis<T> {
         ensures base { IsBase self.now }
     {
         self.base.len()
+    }
+
+    /// Leaves of the lattice exactly the vectors at which the form is 0. The vectors are cleared at
+    /// the form by the least value, as in Euclid's algorithm, and the one left with a value is taken
+    /// out. A refusal changes nothing.
+    pub fn cut_equation(&mut self, alloc: Global, form: &Row<T>) -> Result<(), Num>
+        requires { length form.now ≡ self.old.width }
+        ensures width { self.new.width ≡ self.old.width }
+        ensures cut { OnOk result (IsCut (λ x. dot form.now x ≡ pos 0) self.old.width self.old.vectors self.new.vectors) }
+        ensures steps { OnOk result (IsEquationStep form.now self.old.vectors self.new.vectors) }
+        ensures err { OnErr result (self.new ≡ self.old) }
+    {
+        match zeros(alloc, self.width, self.base.as_slice(), form) {
+            Ok(base) => {
+                self.base = base;
+                Ok(())
+            }
+            Err(refusal) => Err(refusal),
+        }
     }
 
     /// The vector with these coordinates. Range comes only where a product, or a sum of the first

@@ -1,0 +1,89 @@
+// Vectors of a base with the values of a form at them.
+ghost use Rattle.std.specs.Prelude.{◌≡◌, ◌<◌, ◌↔◌, pos, length, unsigned_abs, IfOk, IsTrue};
+ghost use Rattle.std.specs.List.{AllByRecursion as Each};
+ghost use Rattle.nz_spec.specs.Vectors.{dot, HasWidth};
+ghost use Rattle.nz_sweep.specs.Clearing.{Valued as ValuedVector, vectors_of};
+ghost use Rattle.nz_sweep.specs.Cuts.{AreValued, IsValueAt};
+
+use nz_vec::{Num, Row, Scalar};
+use std::alloc::Global;
+use std::marker::Model;
+
+/// A vector and its value.
+#[derive(Drop)]
+pub(crate) struct Valued<T: Scalar> {
+    pub(crate) row: Row<T>,
+    pub(crate) value: T,
+}
+
+impl<T: Scalar> Model for Valued<T> {
+    ghost use Rattle.nz_sweep.specs.Clearing.{Valued as ValuedVector};
+
+    ghost Value = { ValuedVector };
+
+    ghost view = { λ v. record { vector = v.row; value = T.integer v.value } };
+}
+
+/// The vectors with the values of the form at them.
+pub(crate) fn with_values<T: Scalar>(
+    alloc: Global,
+    base: &[Row<T>],
+    form: &Row<T>,
+) -> Result<Vec<Valued<T>>, Num>
+    requires { Each (HasWidth (length form.now)) base.now }
+    ensures { IfOk result (λ v. AreValued (IsValueAt form.now) base.now v.items) }
+{
+    let mut list = match Vec::with_capacity(alloc, base.len()) {
+        Ok(list) => list,
+        Err(_) => return Err(Num::NoMemory),
+    };
+    for place in 0..base.len() {
+        match with_value(&base[place], form) {
+            Ok(valued) => list.push_reserved(valued),
+            Err(refusal) => return Err(refusal),
+        }
+    }
+    Ok(list)
+}
+
+fn with_value<T: Scalar>(row: &Row<T>, form: &Row<T>) -> Result<Valued<T>, Num>
+    requires { length row.now ≡ length form.now }
+    ensures { IfOk result (λ v. (v.vector ≡ row.now) × (v.value ≡ dot form.now row.now)) }
+{
+    let value = match form.dot(row) {
+        Some(value) => value,
+        None => return Err(Num::Range),
+    };
+    match row.try_copy() {
+        Ok(row) => Ok(Valued { row, value }),
+        Err(refusal) => Err(Num::from(refusal)),
+    }
+}
+
+/// The vectors alone.
+pub(crate) fn rows<T: Scalar>(alloc: Global, list: Vec<Valued<T>>) -> Result<Vec<Row<T>>, Num>
+    ensures { IfOk result (λ r. r.items ≡ vectors_of list.items) }
+{
+    let mut rows = Vec::new(alloc);
+    for valued in list {
+        match rows.push(valued.row) {
+            Ok(()) => {}
+            Err(_) => return Err(Num::NoMemory),
+        }
+    }
+    Ok(rows)
+}
+
+/// Whether the value is 0.
+pub(crate) fn is_zero<T: Scalar>(valued: &Valued<T>) -> bool
+    ensures { IsTrue result ↔ (valued.now.value ≡ pos 0) }
+{
+    valued.value == T::of_i64(0)
+}
+
+/// Whether the value is smaller in absolute value than that of another.
+pub(crate) fn is_smaller<T: Scalar>(valued: &Valued<T>, other: &Valued<T>) -> bool
+    ensures { IsTrue result ↔ (unsigned_abs valued.now.value < unsigned_abs other.now.value) }
+{
+    valued.value.to_i128().unsigned_abs() < other.value.to_i128().unsigned_abs()
+}
