@@ -20,11 +20,15 @@ AreValued Has vs ls = AllZip (λ v (l : Valued). (l.vector ≡ v) × Has v l.val
 abbrev pub IsValueAt : Vector → Vector → ℤ → Type 0
 IsValueAt h v a = a ≡ dot h v
 
--- its remainder by m
-pub record IsRemainderAt (h : Vector) (m : ℤ) (v : Vector) (a : ℤ) : Type 0 where
-  pub nonneg : pos 0 ≤ℤ a
-  pub below : a <ℤ m
-  pub rest : IsMultipleOf m (dot h v -ℤ a)
+-- r is the remainder of a by m
+pub record IsRemainder (m a r : ℤ) : Type 0 where
+  pub nonneg : pos 0 ≤ℤ r
+  pub below : r <ℤ m
+  pub rest : IsMultipleOf m (a -ℤ r)
+
+-- the remainder of the value of the form by m
+abbrev pub IsRemainderAt : Vector → ℤ → Vector → ℤ → Type 0
+IsRemainderAt h m v r = IsRemainder m (dot h v) r
 
 -- the values of the form are cleared, and the vector with a value other than 0 is taken out
 pub record TakesOut (h : Vector) (vs us : List Vector) : Type 0 where
@@ -40,7 +44,19 @@ pub record TakesOut (h : Vector) (vs us : List Vector) : Type 0 where
 abbrev pub IsEquationStep : Vector → List Vector → List Vector → Type 0
 IsEquationStep h vs us = (Each (λ v. dot h v ≡ pos 0) vs × (us ≡ vs)) ⊎ TakesOut h vs us
 
--- the remainders are cleared, and the vector with a remainder a other than 0 is multiplied by m divided by the greatest common divisor of a and m
+-- t is m divided by the greatest common divisor of a and m
+pub record IsCofactor (a m t : ℤ) : Type 0 where
+  pub g : ℤ
+  pub gcd : HasGcd (a ∷ m ∷ []) g
+  pub quotient : m ≡ t *ℤ g
+
+-- the vector is multiplied by m divided by the greatest common divisor of its value and m, and stands at its place among the others
+pub record IsMultiplied (m : ℤ) (place : ℕ) (own : Valued) (others us : List Vector) : Type 0 where
+  pub t : ℤ
+  pub cofactor : IsCofactor own.value m t
+  pub left : us ≡ insert others place (scaled t own.vector)
+
+-- the remainders are cleared, and the vector with a remainder other than 0 is multiplied
 pub record Multiplies (h : Vector) (m : ℤ) (vs us : List Vector) : Type 0 where
   pub values : List Valued
   pub valued : AreValued (IsRemainderAt h m) vs values
@@ -48,11 +64,7 @@ pub record Multiplies (h : Vector) (m : ℤ) (vs us : List Vector) : Type 0 wher
   pub own : Valued
   pub others : List Valued
   pub cleared : IsCleared values place own others
-  pub g : ℤ
-  pub t : ℤ
-  pub gcd : HasGcd (own.value ∷ m ∷ []) g
-  pub quotient : m ≡ t *ℤ g
-  pub left : us ≡ insert (vectors_of others) place (scaled t own.vector)
+  pub multiplied : IsMultiplied m place own (vectors_of others) us
 
 -- nothing changes where the form is a multiple of m at all
 abbrev pub IsCongruenceStep : Vector → ℤ → List Vector → List Vector → Type 0

@@ -1,11 +1,11 @@
-ghost use Rattle.std.specs.Prelude.{◌≡◌, ◌<◌, ℤ, pos, IfOk, OnOk, OnErr, MatchResult, length};
+ghost use Rattle.std.specs.Prelude.{◌≡◌, ◌<◌, ◌≤ℤ◌, ℤ, pos, IfOk, OnOk, OnErr, MatchResult, length};
 ghost use Rattle.std.specs.List.{AllByRecursion as Each};
-ghost use Rattle.nz_spec.specs.Vectors.{combination, dot, unit_vectors, HasWidth};
+ghost use Rattle.nz_spec.specs.Vectors.{combination, dot, unit_vectors, HasWidth, IsMultipleOf};
 ghost use Rattle.nz_linear.specs.Coordinates.{in_coordinates};
 ghost use Rattle.nz_sweep.specs.Bases.{IsBase, column_of, CombinationSumsFit, ValueSumsFit};
-ghost use Rattle.nz_sweep.specs.Cuts.{IsCut, IsEquationStep};
+ghost use Rattle.nz_sweep.specs.Cuts.{IsCut, IsEquationStep, IsCongruenceStep};
 
-use crate::cutting::zeros;
+use crate::cutting::{multiples, zeros};
 use crate::units::units;
 use nz_vec::{NoMemory, Num, Row, Scalar};
 use std::alloc::Global;
@@ -58,6 +58,26 @@ impl<T: Scalar> Basis<T> {
         ensures err { OnErr result (self.new ≡ self.old) }
     {
         match zeros(alloc, self.width, self.base.as_slice(), form) {
+            Ok(base) => {
+                self.base = base;
+                Ok(())
+            }
+            Err(refusal) => Err(refusal),
+        }
+    }
+
+    /// Leaves of the lattice exactly the vectors at which the form is a multiple of the modulus. The
+    /// vectors are cleared at the remainders, and the one left with a remainder is multiplied by the
+    /// modulus divided by their greatest common divisor. A refusal changes nothing.
+    pub fn cut_congruence(&mut self, alloc: Global, form: &Row<T>, modulus: T) -> Result<(), Num>
+        requires form { length form.now ≡ self.old.width }
+        requires modulus { pos 1 ≤ℤ T.integer modulus }
+        ensures width { self.new.width ≡ self.old.width }
+        ensures cut { OnOk result (IsCut (λ x. IsMultipleOf (T.integer modulus) (dot form.now x)) self.old.width self.old.vectors self.new.vectors) }
+        ensures steps { OnOk result (IsCongruenceStep form.now (T.integer modulus) self.old.vectors self.new.vectors) }
+        ensures err { OnErr result (self.new ≡ self.old) }
+    {
+        match multiples(alloc, self.width, self.base.as_slice(), form, modulus) {
             Ok(base) => {
                 self.base = base;
                 Ok(())

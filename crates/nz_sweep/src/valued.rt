@@ -1,9 +1,9 @@
 // Vectors of a base with the values of a form at them.
-ghost use Rattle.std.specs.Prelude.{◌≡◌, ◌<◌, ◌↔◌, pos, length, unsigned_abs, IfOk, IsTrue};
+ghost use Rattle.std.specs.Prelude.{◌≡◌, ◌<◌, ◌≤ℤ◌, ◌↔◌, pos, length, unsigned_abs, IfOk, IfSome, IsTrue};
 ghost use Rattle.std.specs.List.{AllByRecursion as Each};
 ghost use Rattle.nz_spec.specs.Vectors.{dot, HasWidth};
 ghost use Rattle.nz_sweep.specs.Clearing.{Valued as ValuedVector, vectors_of};
-ghost use Rattle.nz_sweep.specs.Cuts.{AreValued, IsValueAt};
+ghost use Rattle.nz_sweep.specs.Cuts.{AreValued, IsValueAt, IsRemainder, IsRemainderAt};
 
 use nz_vec::{Num, Row, Scalar};
 use std::alloc::Global;
@@ -58,6 +58,64 @@ fn with_value<T: Scalar>(row: &Row<T>, form: &Row<T>) -> Result<Valued<T>, Num>
         Ok(row) => Ok(Valued { row, value }),
         Err(refusal) => Err(Num::from(refusal)),
     }
+}
+
+/// The vectors with the remainders by the modulus of the values of the form at them.
+pub(crate) fn with_remainders<T: Scalar>(
+    alloc: Global,
+    base: &[Row<T>],
+    form: &Row<T>,
+    modulus: T,
+) -> Result<Vec<Valued<T>>, Num>
+    requires modulus { pos 1 ≤ℤ T.integer modulus }
+    requires widths { Each (HasWidth (length form.now)) base.now }
+    ensures { IfOk result (λ v. AreValued (IsRemainderAt form.now (T.integer modulus)) base.now v.items) }
+{
+    let mut list = match Vec::with_capacity(alloc, base.len()) {
+        Ok(list) => list,
+        Err(_) => return Err(Num::NoMemory),
+    };
+    for place in 0..base.len() {
+        match with_remainder(&base[place], form, modulus) {
+            Ok(valued) => list.push_reserved(valued),
+            Err(refusal) => return Err(refusal),
+        }
+    }
+    Ok(list)
+}
+
+fn with_remainder<T: Scalar>(row: &Row<T>, form: &Row<T>, modulus: T) -> Result<Valued<T>, Num>
+    requires modulus { pos 1 ≤ℤ T.integer modulus }
+    requires width { length row.now ≡ length form.now }
+    ensures { IfOk result (λ v. (v.vector ≡ row.now) × IsRemainderAt form.now (T.integer modulus) row.now v.value) }
+{
+    let value = match form.dot(row) {
+        Some(value) => value,
+        None => return Err(Num::Range),
+    };
+    let value = match remainder(value, modulus) {
+        Some(value) => value,
+        None => return Err(Num::Range),
+    };
+    match row.try_copy() {
+        Ok(row) => Ok(Valued { row, value }),
+        Err(refusal) => Err(Num::from(refusal)),
+    }
+}
+
+fn remainder<T: Scalar>(value: T, modulus: T) -> Option<T>
+    requires { pos 1 ≤ℤ T.integer modulus }
+    ensures { IfSome result (λ r. IsRemainder (T.integer modulus) (T.integer value) (T.integer r)) }
+{
+    let quotient = match value.floor_div(modulus) {
+        Some(quotient) => quotient,
+        None => return None,
+    };
+    let taken = match quotient.try_mul(modulus) {
+        Some(taken) => taken,
+        None => return None,
+    };
+    value.try_sub(taken)
 }
 
 /// The vectors alone.
