@@ -1,0 +1,6 @@
+pub mod ClassLaws
+pub mod PutLemmas
+pub mod RestLemmas
+pub mod SortLemmas
+pub mod UnitLemmas
+pub mod WalkLemmas

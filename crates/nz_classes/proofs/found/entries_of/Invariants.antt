@@ -1,0 +1,10 @@
+use Rattle.std.proofs.Common.{◌≡◌, length, map, take, vec_len}
+use Rattle.std.specs.Prelude.{vec_capacity}
+use Rattle.nz_classes.proofs.found.entries_of.Given as goal
+
+abbrev pub invariant-loop-column : goal.invariant-loop-column
+invariant-loop-column g l = record {
+  reached : vec_len l.entries ≡ l.column;
+  room : vec_capacity l.entries ≡ length l.x;
+  entries : map g.T.Scalar.integer l.entries.items ≡ take l.column l.x;
+}

@@ -1,0 +1,12 @@
+use Rattle.std.proofs.Common.{length}
+use Rattle.nz_classes.specs.Steps.{IsPart, Extends}
+use Rattle.nz_classes.specs.Walks.{paired}
+use Rattle.nz_classes.proofs.WalkLemmas.{ReachesSoFar}
+use Rattle.nz_classes.proofs.walking.steps.Given as goal
+
+abbrev pub invariant-loop-column : goal.invariant-loop-column
+invariant-loop-column g l = record {
+  part : IsPart (length l.sides) (paired l.forms l.sides) l.limit l.found;
+  extends : Extends l.initial.found l.found;
+  reached : ReachesSoFar (length l.sides) (paired l.forms l.sides) l.column l.found l.point;
+}
