@@ -1,0 +1,4 @@
+pub mod PlaceLemmas
+pub mod CrossingLemmas
+pub mod StartLemmas
+pub mod CutLemmas

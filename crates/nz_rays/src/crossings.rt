@@ -1,0 +1,144 @@
+// The pairs of adjacent rays on both sides of a new row. Two rays are adjacent where no third one
+// is 0 at all the rows at which both are; this is read off their zero sets.
+ghost use Rattle.std.specs.Prelude.{◌≡◌, pos, ℕ, ◌+◌, ◌<◌, ◌<ℤ◌, [], length, get_or, IfOk, IsTrue, ◌↔◌, MatchBool, MatchOption};
+ghost use Rattle.std.specs.List.{AllByRecursion as Each};
+ghost use Rattle.nz_spec.specs.Order.{Pairwise};
+ghost use Rattle.nz_rays.specs.Crossings.{AreCommon, IsThird, HasNoThird, HasThird, IsCovered, AreOnBothSides, IsCrossing, AreCrossingsBefore};
+
+use crate::zero_sets::{common, is_within};
+use nz_vec::{NoMemory, PlaceLists, Places, Row, Scalar};
+use std::alloc::Global;
+
+/// An adjacent pair by the places of its rays, with the places of the rows that are 0 at both.
+#[derive(Drop)]
+pub(crate) struct Crossing {
+    pub(crate) above: usize,
+    pub(crate) below: usize,
+    pub(crate) zeros: Places,
+}
+
+/// Whether a value stands for more than 0.
+pub(crate) fn is_positive<T: Scalar>(value: T) -> bool
+    ensures { IsTrue result ↔ (pos 0 <ℤ T.integer value) }
+{
+    T::of_i64(0) < value
+}
+
+/// Whether a value stands for less than 0.
+pub(crate) fn is_negative<T: Scalar>(value: T) -> bool
+    ensures { IsTrue result ↔ (T.integer value <ℤ pos 0) }
+{
+    value < T::of_i64(0)
+}
+
+// Whether the set at this place, of neither ray of the pair, has all the common places.
+fn is_third(zeros: &PlaceLists, common: &Places, above: usize, below: usize, place: usize) -> bool
+    requires within { place < length zeros.now }
+    requires sets { Each (Pairwise ◌<◌) zeros.now }
+    requires set { Pairwise ◌<◌ common.now }
+    ensures { MatchBool result (IsThird zeros.now common.now above below place) (¬ IsThird zeros.now common.now above below place) }
+{
+    if place == above {
+        false
+    } else if place == below {
+        false
+    } else {
+        is_within(common, zeros.at(place))
+    }
+}
+
+// Whether no other ray has all the common places.
+fn are_adjacent(zeros: &PlaceLists, common: &Places, above: usize, below: usize) -> bool
+    requires sets { Each (Pairwise ◌<◌) zeros.now }
+    requires set { Pairwise ◌<◌ common.now }
+    ensures { MatchBool result (HasNoThird zeros.now common.now above below) (HasThird zeros.now common.now above below) }
+{
+    for place in 0..zeros.len() {
+        if is_third(zeros, common, above, below, place) {
+            return false;
+        }
+    }
+    true
+}
+
+// The crossing of two rays on both sides, if they are adjacent.
+fn crossing_of(
+    alloc: Global,
+    zeros: &PlaceLists,
+    above: usize,
+    below: usize,
+) -> Result<Option<Crossing>, NoMemory>
+    requires above { above < length zeros.now }
+    requires below { below < length zeros.now }
+    requires sets { Each (Pairwise ◌<◌) zeros.now }
+    ensures { IfOk result (λ o. MatchOption o (IsCovered zeros.now above below) (λ c. (c.above ≡ above) × (c.below ≡ below) × AreCommon zeros.now above below c.zeros × HasNoThird zeros.now c.zeros above below)) }
+{
+    let zeros_of_both = match common(alloc, zeros.at(above), zeros.at(below)) {
+        Ok(places) => places,
+        Err(refusal) => return Err(refusal),
+    };
+    if are_adjacent(zeros, &zeros_of_both, above, below) {
+        Ok(Some(Crossing {
+            above,
+            below,
+            zeros: zeros_of_both,
+        }))
+    } else {
+        Ok(None)
+    }
+}
+
+// Appends the crossings of the ray above at this place.
+fn with_crossings_of<T: Scalar>(
+    alloc: Global,
+    values: &Row<T>,
+    zeros: &PlaceLists,
+    above: usize,
+    mut list: Vec<Crossing>,
+) -> Result<Vec<Crossing>, NoMemory>
+    requires within { above < length values.now }
+    requires positive { pos 0 <ℤ get_or values.now above (pos 0) }
+    requires count { length zeros.now ≡ length values.now }
+    requires sets { Each (Pairwise ◌<◌) zeros.now }
+    requires before { AreCrossingsBefore values.now zeros.now above 0 list.items }
+    ensures { IfOk result (λ v. AreCrossingsBefore values.now zeros.now (above + 1) 0 v.items) }
+{
+    for below in 0..values.len() {
+        if is_negative(values.at(below)) {
+            let found = match crossing_of(alloc, zeros, above, below) {
+                Ok(found) => found,
+                Err(refusal) => return Err(refusal),
+            };
+            match found {
+                Some(crossing) => match list.push(crossing) {
+                    Ok(()) => {}
+                    Err(_) => return Err(NoMemory),
+                },
+                None => {}
+            }
+        }
+    }
+    Ok(list)
+}
+
+/// All pairs of adjacent rays at which the new row has values of both signs.
+pub(crate) fn crossings<T: Scalar>(
+    alloc: Global,
+    values: &Row<T>,
+    zeros: &PlaceLists,
+) -> Result<Vec<Crossing>, NoMemory>
+    requires count { length zeros.now ≡ length values.now }
+    requires sets { Each (Pairwise ◌<◌) zeros.now }
+    ensures { IfOk result (λ v. AreCrossingsBefore values.now zeros.now (length values.now) 0 v.items) }
+{
+    let mut list = Vec::new(alloc);
+    for above in 0..values.len() {
+        if is_positive(values.at(above)) {
+            list = match with_crossings_of(alloc, values, zeros, above, list) {
+                Ok(list) => list,
+                Err(refusal) => return Err(refusal),
+            };
+        }
+    }
+    Ok(list)
+}
