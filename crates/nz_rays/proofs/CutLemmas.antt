@@ -71,10 +71,10 @@ zip_beside_each R S P T (x ∷ xs) (y ∷ ys) [] f h k e = absurd k
 zip_beside_each R S P T (x ∷ xs) (y ∷ ys) (z ∷ zs) f h k e = (f x y z h.0 k.0 e.0, zip_beside_each R S P T xs ys zs f h.1 k.1 e.1)
 
 -- ---- the values at the rays
-value_at : (h : Vector) (rays : List Vector) (k : ℕ) → k < length rays → get_or (in_coordinates rays h) k (pos 0) ≡ dot h (get_or rays k [])
+pub value_at : (h : Vector) (rays : List Vector) (k : ℕ) → k < length rays → get_or (in_coordinates rays h) k (pos 0) ≡ dot h (get_or rays k [])
 value_at h rays k l = get_or-map (λ r. dot h r) rays k [] (pos 0) l
 
-values_length : (h : Vector) (rays : List Vector) → length (in_coordinates rays h) ≡ length rays
+pub values_length : (h : Vector) (rays : List Vector) → length (in_coordinates rays h) ≡ length rays
 values_length h rays = length-map rays (λ r. dot h r)
 
 -- ---- the sum of two rays on both sides

@@ -2,3 +2,4 @@ pub mod PlaceLemmas
 pub mod CrossingLemmas
 pub mod StartLemmas
 pub mod CutLemmas
+pub mod RangeLemmas

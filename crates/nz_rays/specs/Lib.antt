@@ -1,3 +1,4 @@
 pub mod Crossings
 pub mod Cuts
 pub mod Descriptions
+pub mod Measures

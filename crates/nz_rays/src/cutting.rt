@@ -1,5 +1,5 @@
 // The rays after a new row: those on its side, and the sums of adjacent pairs on both sides.
-ghost use Rattle.std.specs.Prelude.{◌≡◌, pos, ℕ, ◌+◌, ◌<◌, ◌≤ℤ◌, [], length, get_or, IfOk, IsTrue, ◌↔◌};
+ghost use Rattle.std.specs.Prelude.{◌≡◌, pos, ℕ, ◌+◌, ◌<◌, ◌≤ℤ◌, [], length, get_or, IfOk, IsTrue, MatchResult, ◌↔◌};
 ghost use Rattle.std.specs.List.{AllByRecursion as Each, AllZip};
 ghost use Rattle.nz_spec.specs.Vectors.{HasWidth};
 ghost use Rattle.nz_spec.specs.Order.{Pairwise, IsListOf};
@@ -7,6 +7,7 @@ ghost use Rattle.nz_spec.specs.Covers.{vectors_at};
 ghost use Rattle.nz_linear.specs.Coordinates.{in_coordinates};
 ghost use Rattle.nz_rays.specs.Crossings.{AreOnBothSides};
 ghost use Rattle.nz_rays.specs.Cuts.{IsKeptAt, IsSum, AreKeptZeros, AreSumZeros, Appends, AreCutZeros, IsCutByValues};
+ghost use Rattle.nz_rays.specs.Measures.{HasLargeRay, IsCrossingWithin};
 
 use crate::crossings::{Crossing, crossings, is_negative};
 use crate::zero_sets::{copied, extended};
@@ -23,7 +24,7 @@ pub(crate) struct RaysWithZeros<T: Scalar> {
 /// The values of the form at the rays.
 fn values_at<T: Scalar>(alloc: Global, form: &Row<T>, rays: &Rows<T>) -> Result<Row<T>, Num>
     requires { Each (HasWidth (length form.now)) rays.now }
-    ensures { IfOk result (λ v. v ≡ in_coordinates rays.now form.now) }
+    ensures { MatchResult result (λ v. v ≡ in_coordinates rays.now form.now) (λ e. e ≡ Num.Range → HasLargeRay T.HALF form.now rays.now) }
 {
     let mut values = match Vec::with_capacity(alloc, rays.len()) {
         Ok(values) => values,
@@ -88,7 +89,7 @@ fn sum_of<T: Scalar>(
     requires sides { AreOnBothSides values.now crossing.now.above crossing.now.below }
     requires count { length values.now ≡ length rays.now }
     requires widths { length (get_or rays.now crossing.now.below []) ≡ length (get_or rays.now crossing.now.above []) }
-    ensures { IfOk result (IsSum values.now rays.now crossing.now) }
+    ensures { MatchResult result (IsSum values.now rays.now crossing.now) (λ e. e ≡ Num.Range → ¬ IsCrossingWithin T.HALF values.now rays.now crossing.now) }
 {
     let factor = match T::of_i64(0).try_sub(values.at(crossing.below)) {
         Some(factor) => factor,
@@ -118,7 +119,7 @@ fn with_sums<T: Scalar>(
     requires sides { Each (λ c. AreOnBothSides values.now c.above c.below) crossings.now }
     requires count { length values.now ≡ length rays.now }
     requires widths { (i j : ℕ) → i < length rays.now → j < length rays.now → length (get_or rays.now i []) ≡ length (get_or rays.now j []) }
-    ensures { IfOk result (Appends (IsSum values.now rays.now) crossings.now into) }
+    ensures { MatchResult result (Appends (IsSum values.now rays.now) crossings.now into) (λ e. e ≡ Num.Range → ¬ Each (IsCrossingWithin T.HALF values.now rays.now) crossings.now) }
 {
     for index in 0..crossings.len() {
         let sum = match sum_of(alloc, values, rays, &crossings[index]) {
@@ -218,7 +219,7 @@ pub(crate) fn cut<T: Scalar>(
     requires widths { Each (HasWidth (length form.now)) rays.now }
     requires count { length zeros.now ≡ length rays.now }
     requires sets { Each (Pairwise ◌<◌) zeros.now }
-    ensures { IfOk result (λ c. IsCutByValues (in_coordinates rays.now form.now) last rays.now zeros.now c.rays c.zeros) }
+    ensures { MatchResult result (λ c. IsCutByValues (in_coordinates rays.now form.now) last rays.now zeros.now c.rays c.zeros) (λ e. e ≡ Num.Range → HasLargeRay T.HALF form.now rays.now) }
 {
     let values = match values_at(alloc, form, rays) {
         Ok(values) => values,
@@ -254,7 +255,7 @@ fn cut_rays<T: Scalar>(
     requires sides { Each (λ c. AreOnBothSides values.now c.above c.below) crossings.now }
     requires count { length values.now ≡ length rays.now }
     requires widths { (i j : ℕ) → i < length rays.now → j < length rays.now → length (get_or rays.now i []) ≡ length (get_or rays.now j []) }
-    ensures { IfOk result (Appends (IsSum values.now rays.now) crossings.now (vectors_at rays.now kept.now)) }
+    ensures { MatchResult result (Appends (IsSum values.now rays.now) crossings.now (vectors_at rays.now kept.now)) (λ e. e ≡ Num.Range → ¬ Each (IsCrossingWithin T.HALF values.now rays.now) crossings.now) }
 {
     let into = match rows_at(alloc, rays, kept) {
         Ok(into) => into,

@@ -1,8 +1,9 @@
-ghost use Rattle.std.specs.Prelude.{◌≡◌, ◌≢◌, ℕ, ◌<◌, ◌++◌, ◌∷◌, [], length, get_or, IfOk, OnOk, OnErr};
+ghost use Rattle.std.specs.Prelude.{◌≡◌, ◌≢◌, ℕ, ◌<◌, ◌++◌, ◌∷◌, [], length, get_or, IfOk, IfErr, OnOk, OnErr};
 ghost use Rattle.nz_spec.specs.Order.{IsListOf};
 ghost use Rattle.nz_spec.specs.Covers.{vectors_at};
 ghost use Rattle.nz_pointed.specs.Pointed.{IsSimplexOf};
 ghost use Rattle.nz_rays.specs.Descriptions.{AreZeros, IsDescription, ListsRays};
+ghost use Rattle.nz_rays.specs.Measures.{HasLargeRay};
 
 use crate::cutting::{cut, rows_at};
 use crate::zero_sets::all_but;
@@ -38,6 +39,7 @@ impl<T: Scalar> Double<T> {
         requires { IsSimplexOf (length simplex.now.places) rows.now simplex.now.places simplex.now.rays }
         ensures rows { IfOk result (λ d. (d.width ≡ length simplex.now.places) × (d.rows ≡ vectors_at rows.now simplex.now.places)) }
         ensures rays { IfOk result (λ d. ListsRays d) }
+        ensures err { IfErr result (λ e. e ≡ Num.NoMemory) }
     {
         match started(alloc, rows, simplex) {
             Ok(double) => Ok(double),
@@ -45,13 +47,15 @@ impl<T: Scalar> Double<T> {
         }
     }
 
-    /// Adds one row. A refusal changes nothing. Range comes where a number of the step is no value
-    /// of the type; the contract does not yet bound the rays at which that can be.
+    /// Adds one row. A refusal changes nothing. Range comes only where a ray so far has a measure above
+    /// HALF, which is the sum of the absolute values of its entries, or the row at such a ray has one,
+    /// which is that of the products.
     pub fn add(&mut self, alloc: Global, row: &Row<T>) -> Result<(), Num>
         requires { length row.now ≡ self.old.width }
         ensures rows { OnOk result ((self.new.width ≡ self.old.width) × (self.new.rows ≡ self.old.rows ++ row.now ∷ [])) }
         ensures rays { OnOk result (ListsRays self.new) }
         ensures err { OnErr result (self.new ≡ self.old) }
+        ensures range { IfErr result (λ e. e ≡ Num.Range → HasLargeRay T.HALF row.now self.old.rays) }
     {
         let cut = match cut(alloc, row, self.rows.len(), &self.rays, &self.zeros) {
             Ok(cut) => cut,
