@@ -1,6 +1,6 @@
 -- Drafts that grow row by row.
-use Rattle.std.proofs.Common.{◌≡◌, ℕ, zero, suc, ◌+◌, ◌<◌, List, [], ◌∷◌, ◌++◌, length, take, get_or, map, Some, add-one, refl, sym, ap, ◌∙◌, append_assoc, subst, arith}
-use Rattle.std.specs.Prelude.{ℤ, pos, slice_get, Bool, not, ◌&&◌}
+use Rattle.std.proofs.Common.{◌≡◌, ℕ, zero, suc, ◌+◌, ◌<◌, List, [], ◌∷◌, ◌++◌, length, take, get_or, map, Some, add-one, refl, sym, ap, ◌∙◌, append_assoc, subst}
+use Rattle.std.specs.Prelude.{slice_get, Bool, not, ◌&&◌}
 use Rattle.std.specs.List.{flat_map}
 use Rattle.std.proofs.lemmas.List.{append-nil}
 use Rattle.std.proofs.lemmas.Option.{slice_get-get_or}
@@ -11,7 +11,7 @@ use Rattle.nz_input.specs.declared.kind.Kind.{Kind}
 use Rattle.nz_system.specs.declared.contribution.Contribution.{Contribution}
 use Rattle.nz_system.specs.declared.contribution.Contribution.TheVariants.{NotNegative}
 use Rattle.nz_system.specs.declared.draft.Draft.{Draft}
-use Rattle.nz_system.specs.Contributions.{contributions, given, sign_form, sign_forms}
+use Rattle.nz_system.specs.Contributions.{contributions, sign_form, sign_forms}
 use Rattle.nz_system.specs.declared.groups.Group.TheVariants as group
 use Rattle.nz_system.specs.Groups.{occurs}
 use Rattle.nz_system.specs.Drafts.{with_one, with_all}

@@ -1,6 +1,6 @@
 -- Lists that grow by one.
 use Rattle.std.proofs.Common.{◌≡◌, ℕ, zero, suc, ◌+◌, ◌<◌, List, [], ◌∷◌, ◌++◌, length, take, get_or, Some, add-one, refl, sym, ap, ◌∙◌, append_assoc, arith, Bool, true, false}
-use Rattle.std.specs.Prelude.{ℤ, pos, slice_get, replicate, ◌||◌}
+use Rattle.std.specs.Prelude.{ℤ, pos, slice_get, ◌||◌}
 use Rattle.nz_spec.specs.Vectors.{Vector, zero_vector}
 use Rattle.nz_input.specs.Files.{ItemData}
 use Rattle.nz_system.specs.declared.groups.Group.{Group}

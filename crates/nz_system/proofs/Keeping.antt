@@ -1,8 +1,7 @@
 -- What the rows of a file that breaks no rule give has the width of the system.
-use Rattle.std.proofs.Common.{◌≡◌, ℕ, zero, suc, ◌+◌, ◌-◌, ◌<◌, ◌≤◌, List, [], ◌∷◌, ◌++◌, length, take, refl, sym, ap, ◌∙◌, arith, Bool, true, false, None, subst, append_assoc}
-use Rattle.std.proofs.lemmas.List.Elements.{Contains-push, Contains-append_left, Contains-append_right}
+use Rattle.std.proofs.Common.{◌≡◌, ℕ, zero, suc, ◌+◌, ◌-◌, ◌≤◌, List, [], ◌∷◌, ◌++◌, length, refl, sym, ap, ◌∙◌, arith, Bool, true, false, None}
 use Rattle.std.proofs.lemmas.Int.{ints}
-use Rattle.std.specs.Prelude.{ℤ, pos, negsuc, ◌≤ℤ◌, IsTrue, not, ◌&&◌, ◌||◌, nat_lt, Option, IfSome, Contains, map, replicate, int_lt}
+use Rattle.std.specs.Prelude.{ℤ, pos, negsuc, ◌≤ℤ◌, IsTrue, not, ◌&&◌, ◌||◌, nat_lt, map, replicate, int_lt}
 use Rattle.std.specs.List.{flat_map}
 use Rattle.std.specs.List.{AllByRecursion as Each}
 use Rattle.nz_spec.specs.Vectors.{Vector, HasWidth, zero_vector, entry, level_of}
@@ -12,9 +11,7 @@ use Rattle.nz_input.specs.Words.{columns}
 use Rattle.nz_system.specs.declared.contribution.Contribution.{Contribution}
 use Rattle.nz_system.specs.declared.contribution.Contribution.TheVariants.{Zero, Multiple, NotNegative, Generator, LatticeGenerator, Degree, Asked}
 use Rattle.nz_system.specs.Contributions.{at_level, coordinate_form, sign_form, sign_forms, extended, contributions, given, front, last}
-use Rattle.nz_spec.specs.Systems.{Congruence, file_width}
-use Rattle.nz_input.specs.declared.kind.Mode.{Mode}
-use Rattle.nz_input.specs.declared.kind.Mode.TheVariants.{Primal}
+use Rattle.nz_spec.specs.Systems.{Congruence}
 use Rattle.nz_input.specs.Files.{ItemData, FileData, IsItem, IsFile}
 use Rattle.nz_system.specs.declared.asked.GoalSet.{GoalSet}
 use Rattle.nz_system.specs.declared.groups.Group.TheVariants as group
@@ -23,7 +20,7 @@ use Rattle.nz_system.specs.declared.refusal.SystemRefusal.TheVariants.{Meaning}
 use Rattle.nz_system.specs.Groups.{occurs, is_leveled}
 use Rattle.nz_system.specs.Rules.{row_faults, has_no_sign, has_low_denominator, rows_refusals, item_refusals, item_faults, count_rows, has_low_modulus, first, where_fails, goal_faults, items_refusals, refusals, forbids_lattice}
 use Rattle.nz_system.proofs.Ruling.{first-behind, none-front, map-none, passes, length-take}
-use Rattle.nz_system.specs.Meaning.{only_if, there, system_given, system_of, IsKept, orthant, of_level, all_given, orthant_where, level_unit, level_where, width_of, zero_of, multiple_of, not_negative_of, generator_of, degree_of, asked_of}
+use Rattle.nz_system.specs.Meaning.{orthant, of_level, all_given, orthant_where, level_unit, level_where, width_of, zero_of, multiple_of, not_negative_of, generator_of, degree_of, asked_of}
 
 -- the form or vector has the width of the system, a modulus is at least 1, a grading has 0 at the level, and an asked vector has no entry for it
 abbrev pub Fits : Bool → ℕ → Contribution → Type 0

@@ -1,6 +1,6 @@
 -- A draft holds what its rows give, each list for itself.
 use Rattle.std.proofs.Common.{◌≡◌, List, [], ◌∷◌, ◌++◌, refl, sym, ap, ◌∙◌, append_assoc}
-use Rattle.std.specs.Prelude.{ℕ, Bool, Option, Some, None, map, zero}
+use Rattle.std.specs.Prelude.{ℕ, Bool, Option, None, map}
 use Rattle.std.specs.List.{flat_map}
 use Rattle.std.proofs.lemmas.List.{append-nil}
 use Rattle.nz_spec.specs.Vectors.{Vector}

@@ -1,5 +1,5 @@
 -- What a row of each kind gives to the system of its file.
-use Rattle.std.specs.Prelude.{ℕ, zero, suc, ◌-◌, Bool, true, false, cond, List, [], ◌∷◌, ◌++◌, length, take, map, ℤ, pos, neg_ℤ, negsuc}
+use Rattle.std.specs.Prelude.{ℕ, zero, suc, ◌-◌, Bool, true, false, List, [], ◌∷◌, ◌++◌, length, take, map, ℤ, pos, negsuc}
 use Rattle.std.specs.List.{flat_map}
 use Rattle.nz_spec.specs.Vectors.{Vector, zero_vector, entry}
 use Rattle.nz_input.specs.Files.{ItemData}

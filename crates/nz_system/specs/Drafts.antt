@@ -1,6 +1,6 @@
 -- The lists of a draft, with what rows give behind them.
 use Rattle.std.specs.Prelude.{List, [], ◌∷◌, ◌++◌}
-use Rattle.nz_spec.specs.Constraints.{Constraint, Multiple as IsMultiple}
+use Rattle.nz_spec.specs.Constraints.{Multiple as IsMultiple}
 use Rattle.nz_system.specs.declared.contribution.Contribution.{Contribution}
 use Rattle.nz_system.specs.declared.contribution.Contribution.TheVariants.{Zero, Multiple, NotNegative, Generator, LatticeGenerator, Degree, Asked}
 use Rattle.nz_system.specs.declared.draft.Draft.{Draft}

@@ -1,10 +1,10 @@
 -- The system of a file, item by item, and what is asked of it.
-use Rattle.std.specs.Prelude.{◌≡◌, ℕ, ◌+◌, Bool, true, false, IsTrue, not, ◌&&◌, List, [], ◌∷◌, ◌++◌, map, replicate, pos, Option, Some, None, Result, Ok, Err, IsSome}
+use Rattle.std.specs.Prelude.{◌≡◌, ℕ, ◌+◌, Bool, true, false, IsTrue, not, ◌&&◌, List, [], ◌∷◌, ◌++◌, replicate, pos, Option, Some, None, Result, Ok, Err, IsSome}
 use Rattle.std.specs.List.{flat_map}
 use Rattle.nz_spec.specs.Vectors.{Vector, zero_vector}
 use Rattle.nz_spec.specs.Systems.{Congruence, System, IsSystem}
 use Rattle.nz_spec.specs.Constraints.{Constraint, Multiple as IsMultiple, Zero as IsZero, NotNegative as IsNotNegative}
-use Rattle.nz_input.specs.Files.{ItemData, FileData}
+use Rattle.nz_input.specs.Files.{FileData}
 use Rattle.nz_input.specs.declared.kind.Goal.{Goal}
 use Rattle.nz_input.specs.declared.kind.Kind.TheVariants.{Signs}
 use Rattle.nz_input.specs.declared.kind.Mode.{Mode}

@@ -63,7 +63,11 @@ fn put_goals(text: &mut String, goals: GoalSet) -> Result<(), Fail> {
 
 fn shown(alloc: Global, system: &System) -> Result<String, Fail> {
     let mut text = format!(in alloc; "width {}", system.width)?;
-    text.push_str(if system.level { " with level; eq" } else { "; eq" })?;
+    text.push_str(if system.level {
+        " with level; eq"
+    } else {
+        "; eq"
+    })?;
     put_rows(&mut text, &system.eq)?;
     text.push_str("; cg")?;
     put_congruences(&mut text, &system.cg)?;

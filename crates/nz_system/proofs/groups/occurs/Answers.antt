@@ -1,4 +1,4 @@
-use Rattle.std.proofs.Common.{◌≡◌, ◌∙◌, ap}
+use Rattle.std.proofs.Common.{◌∙◌, ap}
 use Rattle.std.specs.Prelude.{◌||◌}
 use Rattle.nz_input.specs.Files.{ItemData}
 use Rattle.nz_system.specs.Groups.{includes}

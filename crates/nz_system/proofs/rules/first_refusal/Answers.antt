@@ -1,7 +1,4 @@
-use Rattle.std.proofs.Common.{sym, ◌∙◌}
-use Rattle.nz_system.specs.declared.refusal.SystemRefusal.TheVariants.{Meaning}
-use Rattle.nz_system.specs.Rules.{goal_faults}
-use Rattle.nz_system.proofs.Ruling.{file-few, file-entries, items-first, goals-first, some-map, none-map}
+use Rattle.nz_system.proofs.Ruling.{file-few, file-entries, items-first}
 use Rattle.nz_system.proofs.rules.first_refusal.Goals as goal
 
 pub items_refusal-requires-clause-few : goal.items_refusal-requires-clause-few
