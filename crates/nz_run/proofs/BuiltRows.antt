@@ -1,8 +1,8 @@
 -- The rows of a file of which everything is built.
-use Rattle.std.proofs.Common.{◌≡◌, ℕ, zero, suc, ◌+◌, ◌-◌, ◌<◌, ◌≤◌, List, [], ◌∷◌, ◌++◌, length, take, add-one, refl, sym, ap, ◌∙◌, subst, arith, append_assoc, true, false, Some, None}
+use Rattle.std.proofs.Common.{◌≡◌, ℕ, zero, suc, ◌+◌, List, [], ◌∷◌, ◌++◌, take, add-one, sym, ap, ◌∙◌, subst, append_assoc, Some}
 use Rattle.std.specs.Prelude.{slice_get, map, pos, ◌≤ℤ◌}
 use Rattle.std.proofs.lemmas.List.{append-nil}
-use Rattle.std.specs.List.{AllByRecursion as Each, flat_map}
+use Rattle.std.specs.List.{AllByRecursion as Each}
 use Rattle.nz_spec.specs.Vectors.{Vector, HasWidth}
 use Rattle.nz_spec.specs.Systems.{Congruence, System, IsMember}
 use Rattle.nz_spec.specs.Monoids.{IsIrreducible}
@@ -17,7 +17,7 @@ use Rattle.nz_box.specs.Congruences.{congruence_of, congruence_system, IsCongrue
 use Rattle.nz_system.specs.declared.groups.Group.TheVariants as group
 use Rattle.nz_system.specs.Groups.{occurs}
 use Rattle.nz_system.specs.Asked.{goals_of}
-use Rattle.nz_system.specs.Meaning.{all_given, system_of}
+use Rattle.nz_system.specs.Meaning.{all_given}
 use Rattle.nz_system.proofs.Keeping.{all-fit, modulus-widths}
 use Rattle.nz_run.specs.Built.{IsBuiltItem, IsBuilt}
 use Rattle.nz_run.specs.FileSystems.{rows_of, HasMeaning}

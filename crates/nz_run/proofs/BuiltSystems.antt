@@ -1,7 +1,6 @@
 -- The system of a file of congruences.
-use Rattle.std.proofs.Common.{◌≡◌, ℕ, zero, suc, ◌+◌, ◌-◌, ◌<◌, ◌≤◌, List, [], ◌∷◌, ◌++◌, length, take, refl, sym, ap, ◌∙◌, subst, arith, Bool, true, false, Option, Some, None}
-use Rattle.std.specs.Prelude.{ℤ, pos, map, not, ◌||◌, replicate}
-use Rattle.std.proofs.lemmas.Grind.{flat_map-append}
+use Rattle.std.proofs.Common.{◌≡◌, ℕ, zero, suc, ◌-◌, ◌<◌, ◌≤◌, List, [], ◌∷◌, ◌++◌, length, refl, sym, ap, ◌∙◌, arith, Bool, false, Option, None}
+use Rattle.std.specs.Prelude.{pos, map, not, ◌||◌, replicate}
 use Rattle.std.proofs.lemmas.List.{append-nil, map-append}
 use Rattle.std.specs.List.{AllByRecursion as Each, flat_map}
 use Rattle.nz_spec.specs.Vectors.{Vector, entry, zero_vector, unit_vectors}
@@ -15,7 +14,7 @@ use Rattle.nz_system.specs.declared.groups.Group.{Group}
 use Rattle.nz_system.specs.declared.groups.Group.TheVariants as group
 use Rattle.nz_system.specs.Groups.{includes, occurs}
 use Rattle.nz_system.specs.Contributions.{front, last, coordinate_form, sign_form, sign_forms, contributions, given}
-use Rattle.nz_system.specs.Meaning.{zero_of, multiple_of, not_negative_of, generator_of, lattice_of, degree_of, asked_of, there, orthant, orthant_where, of_level, all_given, system_given, system_of}
+use Rattle.nz_system.specs.Meaning.{zero_of, multiple_of, not_negative_of, generator_of, lattice_of, degree_of, asked_of, there, orthant, orthant_where, all_given, system_given, system_of}
 use Rattle.nz_system.specs.Rules.{first}
 use Rattle.nz_box.specs.Congruences.{congruence_of, congruence_system}
 use Rattle.nz_run.specs.Built.{IsBuiltItem, IsBuilt}

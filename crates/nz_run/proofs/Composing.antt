@@ -1,18 +1,18 @@
 -- How the steps of a run compose.
-use Rattle.std.proofs.Common.{◌≡◌, ◌≢◌, ℕ, ◌+◌, ◌-◌, ◌^◌, ◌<◌, ◌≤◌, ◌⊎◌, inl, inr, List, [], ◌∷◌, ◌++◌, length, take, refl, sym, ap, ◌∙◌, subst, arith, Option, Some, None, Bool, true, false}
+use Rattle.std.proofs.Common.{◌≡◌, ℕ, inl, inr, List, ◌++◌, length, refl, sym, ap, ◌∙◌, subst, arith, Option, Some, None, Bool, true, false}
 use Rattle.std.specs.Prelude.{IsFalse}
 use Rattle.std.proofs.lemmas.List.{take_all}
 use Rattle.nz_vec.specs.Texts.{Text}
 use Rattle.nz_edge.specs.Folders.{Files, BothTold, SameFiles, SameOthers, Stores}
-use Rattle.nz_edge.specs.Counts.{Rose, IsQuiet, last_value}
+use Rattle.nz_edge.specs.Counts.{Rose, IsQuiet}
 use Rattle.nz_edge.specs.Answers.{OnTold, LoadGives, StoreLeaves, PutAll}
 use Rattle.nz_edge.specs.declared.folder.Load.TheVariants as load
 use Rattle.nz_edge.specs.declared.folder.Stored.TheVariants as stored
 use Rattle.nz_run.specs.declared.status.Status.{Status}
 use Rattle.nz_run.specs.declared.status.Status.TheVariants.{Done, Usage, Absent, ReadFault, TooLong, Grammar, Meaning, NotBuilt, Crowded, WriteFault, NoMemory}
-use Rattle.nz_run.specs.Words.{AreWordsFor, AreRefused, input_name, output_name}
+use Rattle.nz_run.specs.Words.{AreWordsFor, input_name, output_name}
 use Rattle.nz_run.specs.Statuses.{status_line}
-use Rattle.nz_run.specs.Runs.{most, IsInput, IsSolved, IsCause, IsCauseOrMemory, Leaves, ExplainsFor, Explains, CountRose, StoreCount, PutsLine}
+use Rattle.nz_run.specs.Runs.{IsInput, IsSolved, IsCauseOrMemory, Leaves, ExplainsFor, Explains, CountRose, StoreCount, PutsLine}
 
 pub told_weaker : {A : Type 0} (o n : Option A) (P Q : A → A → Type 0) → BothTold o n P → ((a b : A) → P a b → Q a b) → BothTold o n Q
 told_weaker None None P Q h w = tt

@@ -1,7 +1,6 @@
 -- Pieces written one after another.
-use Rattle.std.proofs.Common.{◌≡◌, ℕ, zero, suc, ◌+◌, ◌<◌, ◌≤◌, List, [], ◌∷◌, ◌++◌, length, take, refl, sym, ap, ◌∙◌, subst, arith, append_assoc, Option, Some, None, Bool, true, false}
-use Rattle.std.proofs.lemmas.List.{take_all, take-append-le}
-use Rattle.std.proofs.Math.Seq.{take-append-add, take-append_seam}
+use Rattle.std.proofs.Common.{◌≡◌, ℕ, zero, suc, ◌+◌, [], ◌∷◌, ◌++◌, length, take, refl, sym, ap, ◌∙◌, subst, append_assoc, Option, Some, None, Bool, true, false}
+use Rattle.std.proofs.Math.Seq.{take-append-add}
 use Rattle.nz_vec.specs.Texts.{Text}
 use Rattle.nz_edge.specs.Folders.{BothTold}
 use Rattle.nz_edge.specs.Answers.{PutAll}

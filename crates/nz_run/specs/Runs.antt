@@ -1,5 +1,5 @@
 -- What a run leaves, status by status.
-use Rattle.std.specs.Prelude.{◌≡◌, ◌⊎◌, ℕ, ◌+◌, ◌<◌, ◌≤◌, false, ◌++◌, List, [], length, take, Option, Some, None, Err}
+use Rattle.std.specs.Prelude.{◌≡◌, ◌⊎◌, ℕ, ◌+◌, ◌<◌, ◌≤◌, false, ◌++◌, List, [], length, take, Some, None, Err}
 use Rattle.nz_vec.specs.Texts.{Text}
 use Rattle.nz_spec.specs.Vectors.{Vector}
 use Rattle.nz_spec.specs.Elements.{IsHilbertBasis}

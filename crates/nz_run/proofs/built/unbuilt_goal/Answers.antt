@@ -1,4 +1,4 @@
-use Rattle.std.proofs.Common.{◌≡◌, ◌≤◌, length, arith, refl}
+use Rattle.std.proofs.Common.{arith, refl}
 use Rattle.nz_run.specs.Built.{IsBuiltGoal}
 use Rattle.nz_run.proofs.Firsts.{holds_none, holds_more, holds_all, first_not}
 use Rattle.nz_run.proofs.built.unbuilt_goal.Goals as goal

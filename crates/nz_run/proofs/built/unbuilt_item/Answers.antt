@@ -1,4 +1,4 @@
-use Rattle.std.proofs.Common.{◌≡◌, ◌≤◌, length, arith, refl, sym, ap}
+use Rattle.std.proofs.Common.{arith, refl, sym, ap}
 use Rattle.nz_input.specs.Files.{ItemData}
 use Rattle.nz_run.specs.Built.{IsBuiltItem}
 use Rattle.nz_run.proofs.Firsts.{holds_none, holds_more, holds_all, first_not}

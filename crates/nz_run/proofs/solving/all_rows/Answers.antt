@@ -1,5 +1,4 @@
-use Rattle.std.proofs.Common.{◌≡◌, ◌++◌, List, ap, sym, ◌∙◌}
-use Rattle.nz_spec.specs.Vectors.{Vector}
+use Rattle.std.proofs.Common.{◌++◌, ap, ◌∙◌}
 use Rattle.nz_input.specs.Files.{ItemData}
 use Rattle.nz_run.proofs.BuiltRows.{rows_more}
 use Rattle.nz_run.proofs.solving.all_rows.Goals as goal

@@ -1,8 +1,8 @@
-use Rattle.std.proofs.Common.{◌≡◌, sym, ◌∙◌, subst, refl}
+use Rattle.std.proofs.Common.{◌∙◌, subst}
 use Rattle.nz_vec.specs.Texts.{Text}
 use Rattle.nz_edge.specs.Folders.{BothTold}
 use Rattle.nz_run.specs.Runs.{Leaves}
-use Rattle.nz_run.proofs.Composing.{loaded_and_stored, loaded_absent, count_of_store, store_not_usage}
+use Rattle.nz_run.proofs.Composing.{loaded_and_stored}
 use Rattle.nz_run.proofs.top.run_project.Goals as goal
 
 pub returns-in-Bytes-clause-outcome : goal.returns-in-Bytes-clause-outcome
