@@ -11,6 +11,7 @@ use Rattle.nz_linear.specs.DualPairs.{Pair, pair_of, divisor, IsApart, IsDual, I
 use Rattle.nz_linear.specs.Extreme.{IsPointed}
 use Rattle.nz_linear.specs.RayStep.{AreExtremeRays}
 use Rattle.nz_linear.proofs.Lists.{each_map, each_of_map, map_each}
+use Rattle.nz_linear.proofs.Dependence.{complete_length}
 use Rattle.nz_linear.proofs.RayStart.{dual_rays, dual_pointed}
 use Rattle.nz_linear.proofs.Splitting.{listed_is_ray, ray_is_listed}
 use Rattle.nz_pointed.specs.Pointed.{paired, IsSimplexOf}
@@ -111,3 +112,14 @@ others_more count place lists more others h o e = (
       (λ s. rw (get_or_push lists others [] i (h.0 ∙ sym s)) (subst (λ (j : ℕ). IsListOf ◌<◌ (λ k. (k < count) × (k ≢ j)) others) (sym s) o))
       (below_next i place l)),
 )
+
+-- a simplex has as many places as its vectors have entries
+pub simplex_width : (w : ℕ) (rows rays : List Vector) (places : List ℕ) → IsSimplexOf w rows places rays → w ≡ length places
+simplex_width w rows rays places s =
+    let fs = vectors_at rows places in
+    let l : length rays ≡ length fs = s.one_each ∙ sym (length_at rows places) in
+    sym (complete_length w (paired fs rays) s.dual s.only_zero) ∙ sym (length-map (paired fs rays) (λ (p : Pair). p.form)) ∙ ap length (forms_of fs rays l) ∙ length_at rows places
+
+-- an answer of the test for lines, as the start asks for it
+pub simplex_at_width : (w : ℕ) (rows rays : List Vector) (places : List ℕ) → IsSimplexOf w rows places rays → IsSimplexOf (length places) rows places rays
+simplex_at_width w rows rays places s = subst (λ (n : ℕ). IsSimplexOf n rows places rays) (simplex_width w rows rays places s) s
