@@ -3,5 +3,8 @@ pub mod BaseLemmas
 pub mod CutLemmas
 pub mod ClearingLemmas
 pub mod PivotLemmas
-pub mod StepLemmas
 pub mod RoundLemmas
+pub mod StepLemmas
+pub mod PlaceLemmas
+pub mod DualLemmas
+pub mod LowerLemmas

@@ -1,13 +1,15 @@
 -- One round of clearing, as the code makes it.
-use Rattle.std.proofs.Common.{◌≡◌, ◌≢◌, ℕ, ◌<◌, ◌≤◌, List, ◌++◌, length, get_or, take, drop, pos, refl, sym, ap, ◌∙◌, subst, arith}
+use Rattle.std.proofs.Common.{◌≡◌, ◌≢◌, ℕ, ◌<◌, ◌≤◌, List, ◌++◌, length, get_or, set, take, drop, pos, refl, sym, ap, ◌∙◌, subst, arith}
 use Rattle.std.specs.Prelude.{unsigned_abs}
 use Rattle.std.specs.List.{AllByRecursion as Each, AllZip, insert, remove}
 use Rattle.std.proofs.lemmas.List.{take-append-drop}
-use Rattle.std.proofs.lemmas.List.Edits.{length-remove}
+use Rattle.std.proofs.lemmas.List.Edits.{length-remove, length-insert}
 use Rattle.nz_spec.specs.Vectors.{HasWidth, entry}
 use Rattle.nz_linear.proofs.Lists.{each_insert, each_of_map, map_each}
 use Rattle.nz_sweep.specs.Clearing.{Valued, vectors_of, values_of, AreZero, IsReduced, IsPivot, IsRound, AreRounds, more, IsCleared}
 use Rattle.nz_sweep.proofs.ClearingLemmas.{zip_length, zip_widths, rest_widths, width_at, round_smaller}
+use Rattle.nz_sweep.specs.Duals.{Coordinate, AreDual, IsGathered}
+use Rattle.nz_sweep.proofs.DualLemmas.{round_dual}
 use Rattle.nz_sweep.proofs.PivotLemmas.{value_at, own_zero, pivot_smaller}
 
 -- rounds have led to vs, of which the pivot is taken out and reduces the rest
@@ -73,3 +75,12 @@ round_widths w all vs rest others ls i own r e l =
     let lt : Each (λ (v : Valued). HasWidth w v.vector) others = map_each (λ (v : Valued). v.vector) (HasWidth w) others (zip_widths w own rest others lo lr r.reduced) in
     let back : Each (λ (v : Valued). HasWidth w v.vector) (take i others ++ drop i others) = subst (Each (λ (v : Valued). HasWidth w v.vector)) (sym (take-append-drop i others)) lt in
     subst (λ (t : List Valued). Each (HasWidth w) (vectors_of t)) (sym e) (each_of_map (λ (v : Valued). v.vector) (HasWidth w) (insert others i own) (each_insert (λ (v : Valued). HasWidth w v.vector) own (take i others) (drop i others) (lo, back)))
+
+pub dual_after : (w : ℕ) (all vs rest others : List Valued) (cs : List Coordinate) (i : ℕ) (own : Valued) (c : Coordinate) → AtRound all vs rest others i own → AreDual w (vectors_of vs) cs → IsGathered w vs i (length vs) c → AreDual w (vectors_of (insert others i own)) (set cs i c)
+dual_after w all vs rest others cs i own c r d g =
+    let l = place_within all vs rest others i own r in
+    let n = length-insert others i own l in
+    let a = zip_length own rest others r.reduced in
+    let b = ap length r.is_rest in
+    let k = length-remove vs i r.pivot.within in
+    round_dual w vs others cs i own c d g (subst (λ (t : List Valued). AllZip (IsReduced own) t others) r.is_rest r.reduced) r.pivot.within l (omega (arith, n, a, b, k)) r.is_own

@@ -16,7 +16,7 @@ use Rattle.nz_scalar.specs.Division.{IsFloorQuotient, HasGcd}
 use Rattle.nz_scalar.proofs.GcdLemmas.{gcd_unique}
 use Rattle.nz_linear.specs.Division.{IsGcdOf}
 use Rattle.nz_linear.proofs.Ring.{sums, ring_z}
-use Rattle.nz_linear.proofs.Signs.{cancel_le, cancel_lt}
+use Rattle.nz_linear.proofs.Signs.{cancel_le, cancel_lt, mul_is_pos}
 use Rattle.nz_linear.proofs.VectorLaws.{dot-plus, length-scaled, zero-scaled, plus-zero}
 use Rattle.nz_linear.proofs.Division.{gcd_of, common_divides_gcd}
 use Rattle.nz_linear.proofs.GroupCuts.{equation_cut, congruence_cut}
@@ -239,3 +239,8 @@ gcd_nonzero a m g p h z = let d = h.divides.1.0 in let s = divisor_positive d.0 
 
 pub times_of : (w : ℕ) (t z : ℤ) (x r : Vector) → HasWidth w x → z ≡ pos 0 → r ≡ plus (scaled t x) (scaled z x) → r ≡ scaled t x
 times_of w t z x r l e s = s ∙ ap (λ (u : ℤ). plus (scaled t x) (scaled u x)) e ∙ ap (plus (scaled t x)) (zero-scaled w x l) ∙ plus-zero w (scaled t x) (length-scaled w t x l)
+
+pub cofactor_positive : (a m t : ℤ) → pos 1 ≤ℤ m → IsCofactor a m t → pos 0 <ℤ t
+cofactor_positive a m t p c =
+    let s = divisor_positive t c.g m p c.gcd.nonneg c.quotient in
+    mul_is_pos c.g t s.0 (subst (λ (u : ℤ). pos 0 <ℤ u) (c.quotient ∙ *ℤ_comm t c.g) (omega (arith, ints, p)))

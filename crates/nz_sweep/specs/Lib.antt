@@ -1,3 +1,4 @@
 pub mod Bases
 pub mod Clearing
 pub mod Cuts
+pub mod Duals

@@ -5,27 +5,31 @@ ghost use Rattle.nz_linear.specs.Coordinates.{in_coordinates};
 ghost use Rattle.nz_sweep.specs.Bases.{IsBase, column_of, CombinationSumsFit, ValueSumsFit};
 ghost use Rattle.nz_sweep.specs.Cuts.{IsCut, IsEquationStep, IsCongruenceStep};
 
+use crate::coordinates::{Coordinate, unit_coordinates};
 use crate::cutting::{multiples, zeros};
 use crate::units::units;
 use nz_vec::{NoMemory, Num, Row, Scalar};
 use std::alloc::Global;
 use std::marker::Model;
 
-/// A lattice, by independent vectors that generate it.
+/// A lattice, by independent vectors that generate it. Beside them it keeps their coordinate forms,
+/// which are what a vector of the lattice is told by.
 #[derive(Drop)]
 pub struct Basis<T: Scalar> {
     width: usize,
     base: Vec<Row<T>>,
+    coordinates: Vec<Coordinate<T>>,
 }
 
 impl<T: Scalar> Model for Basis<T> {
     ghost use Rattle.nz_sweep.specs.Bases.{Base, IsBase};
+    ghost use Rattle.nz_sweep.specs.Duals.{AreDual};
 
     ghost Value = { Base };
 
     ghost view = { λ b. record { width = b.width; vectors = b.base.items } };
 
-    ghost invariant = { λ b. IsBase (record { width = b.width; vectors = b.base.items }) };
+    ghost invariant = { λ b. IsBase (record { width = b.width; vectors = b.base.items }) × AreDual b.width b.base.items b.coordinates.items };
 }
 
 impl<T: Scalar> Basis<T> {
@@ -33,8 +37,16 @@ impl<T: Scalar> Basis<T> {
     pub fn whole(alloc: Global, width: usize) -> Result<Basis<T>, NoMemory>
         ensures { IfOk result (λ b. (b.width ≡ width) × (b.vectors ≡ unit_vectors width)) }
     {
-        match units(alloc, width) {
-            Ok(base) => Ok(Basis { width, base }),
+        let base = match units(alloc, width) {
+            Ok(base) => base,
+            Err(refusal) => return Err(refusal),
+        };
+        match unit_coordinates(alloc, width) {
+            Ok(coordinates) => Ok(Basis {
+                width,
+                base,
+                coordinates,
+            }),
             Err(refusal) => Err(refusal),
         }
     }
@@ -57,9 +69,11 @@ impl<T: Scalar> Basis<T> {
         ensures steps { OnOk result (IsEquationStep form.now self.old.vectors self.new.vectors) }
         ensures err { OnErr result (self.new ≡ self.old) }
     {
-        match zeros(alloc, self.width, self.base.as_slice(), form) {
-            Ok(base) => {
-                self.base = base;
+        let (base, coordinates) = (self.base.as_slice(), self.coordinates.as_slice());
+        match zeros(alloc, self.width, base, coordinates, form) {
+            Ok(cut) => {
+                self.base = cut.base;
+                self.coordinates = cut.coordinates;
                 Ok(())
             }
             Err(refusal) => Err(refusal),
@@ -77,9 +91,11 @@ impl<T: Scalar> Basis<T> {
         ensures steps { OnOk result (IsCongruenceStep form.now (T.integer modulus) self.old.vectors self.new.vectors) }
         ensures err { OnErr result (self.new ≡ self.old) }
     {
-        match multiples(alloc, self.width, self.base.as_slice(), form, modulus) {
-            Ok(base) => {
-                self.base = base;
+        let (base, coordinates) = (self.base.as_slice(), self.coordinates.as_slice());
+        match multiples(alloc, self.width, base, coordinates, form, modulus) {
+            Ok(cut) => {
+                self.base = cut.base;
+                self.coordinates = cut.coordinates;
                 Ok(())
             }
             Err(refusal) => Err(refusal),

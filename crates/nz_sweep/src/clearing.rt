@@ -1,20 +1,25 @@
 // Clearing: the vectors of a base are taken from one another until all but one have the value 0.
 ghost use Rattle.std.specs.Prelude.{◌≡◌, ◌≢◌, pos, length, IfOk};
-ghost use Rattle.std.specs.List.{AllByRecursion as Each, AllZip};
+ghost use Rattle.std.specs.List.{AllByRecursion as Each, AllZip, insert};
 ghost use Rattle.nz_spec.specs.Vectors.{HasWidth};
 ghost use Rattle.nz_sweep.specs.Clearing.{Valued as ValuedVector, values_of, vectors_of, IsPivot, IsReduced, IsCleared};
+ghost use Rattle.nz_sweep.specs.Duals.{AreDual};
 
+use crate::coordinates::Coordinate;
+use crate::gathering::gathered;
 use crate::pivots::{are_zero, least};
 use crate::valued::Valued;
 use nz_vec::{Num, Row, Scalar};
 use std::alloc::Global;
 
-/// A cleared base: a vector with a value other than 0, its place, and the others, whose values are 0.
+/// A cleared base: a vector with a value other than 0, its place, the others, whose values are 0,
+/// and the coordinates of all.
 #[derive(Drop)]
 pub(crate) struct Cleared<T: Scalar> {
     pub(crate) place: usize,
     pub(crate) own: Valued<T>,
     pub(crate) others: Vec<Valued<T>>,
+    pub(crate) coordinates: Vec<Coordinate<T>>,
 }
 
 /// Clears a list, one pivot after the other clearing all others, from the one at this place on.
@@ -22,22 +27,36 @@ pub(crate) fn clear_all<T: Scalar>(
     alloc: Global,
     width: usize,
     list: Vec<Valued<T>>,
+    coordinates: Vec<Coordinate<T>>,
     place: usize,
 ) -> Result<Cleared<T>, Num>
     requires pivot { IsPivot (values_of list.items) (length list.items) place }
     requires widths { Each (HasWidth width) (vectors_of list.items) }
-    ensures { IfOk result (λ c. IsCleared list.items c.place c.own c.others.items) }
+    requires dual { AreDual width (vectors_of list.items) coordinates.items }
+    ensures cleared { IfOk result (λ c. IsCleared list.items c.place c.own c.others.items) }
+    ensures dual { IfOk result (λ c. AreDual width (vectors_of (insert c.others.items c.place c.own)) c.coordinates.items) }
 {
     let mut list = list;
+    let mut coordinates = coordinates;
     let mut place = place;
     'rounds: loop {
+        let joint = match gathered(alloc, width, list.as_slice(), coordinates.as_slice(), place) {
+            Ok(joint) => joint,
+            Err(refusal) => return Err(refusal),
+        };
+        coordinates[place] = joint;
         let own = list.remove(place);
         let mut others = match reduced_all(alloc, width, &own, list.as_slice()) {
             Ok(others) => others,
             Err(refusal) => return Err(refusal),
         };
         if are_zero(others.as_slice()) {
-            return Ok(Cleared { place, own, others });
+            return Ok(Cleared {
+                place,
+                own,
+                others,
+                coordinates,
+            });
         }
         match others.insert(place, own) {
             Ok(()) => {}

@@ -1,37 +1,53 @@
 // Cuts of a base: the vectors of its group at which a form is 0, or a multiple of a modulus.
-ghost use Rattle.std.specs.Prelude.{◌≡◌, ◌≤◌, ◌≤ℤ◌, pos, length, IfOk, IfSome};
-ghost use Rattle.std.specs.List.{AllByRecursion as Each};
+ghost use Rattle.std.specs.Prelude.{◌≡◌, ◌≤◌, ◌≤ℤ◌, ◌<ℤ◌, ◌*ℤ◌, pos, length, IfOk, IfSome};
+ghost use Rattle.std.specs.List.{AllByRecursion as Each, insert};
 ghost use Rattle.nz_spec.specs.Vectors.{scaled, HasWidth};
 ghost use Rattle.nz_sweep.specs.Clearing.{vectors_of};
 ghost use Rattle.nz_sweep.specs.Cuts.{IsEquationStep, IsCongruenceStep, IsCofactor, IsMultiplied};
+ghost use Rattle.nz_sweep.specs.Duals.{AreDual, IsLowered};
 
 use crate::clearing::{Cleared, clear_all};
+use crate::coordinates::{Coordinate, copies, lowest};
 use crate::pivots::least;
-use crate::valued::{rows, with_remainders, with_values};
+use crate::valued::{Valued, rows, with_remainders, with_values};
 use nz_vec::{Num, Row, Scalar};
 use std::alloc::Global;
+
+/// A base with its coordinates.
+#[derive(Drop)]
+pub(crate) struct DualBase<T: Scalar> {
+    pub(crate) base: Vec<Row<T>>,
+    pub(crate) coordinates: Vec<Coordinate<T>>,
+}
 
 /// A base of the vectors at which the form is 0.
 pub(crate) fn zeros<T: Scalar>(
     alloc: Global,
     width: usize,
     base: &[Row<T>],
+    coordinates: &[Coordinate<T>],
     form: &Row<T>,
-) -> Result<Vec<Row<T>>, Num>
+) -> Result<DualBase<T>, Num>
     requires width { length form.now ≡ width }
     requires widths { Each (HasWidth width) base.now }
-    ensures { IfOk result (λ r. IsEquationStep form.now base.now r.items) }
+    requires dual { AreDual width base.now coordinates.now }
+    ensures step { IfOk result (λ r. IsEquationStep form.now base.now r.base.items) }
+    ensures dual { IfOk result (λ r. AreDual width r.base.items r.coordinates.items) }
 {
     let list = match with_values(alloc, base, form) {
         Ok(list) => list,
         Err(refusal) => return Err(refusal),
     };
+    let coordinates = match copies(alloc, coordinates) {
+        Ok(coordinates) => coordinates,
+        Err(refusal) => return Err(refusal),
+    };
     let place = match least(list.as_slice()) {
         Some(place) => place,
-        None => return rows(alloc, list),
+        None => return unchanged(alloc, list, coordinates),
     };
-    match clear_all(alloc, width, list, place) {
-        Ok(cleared) => rows(alloc, cleared.others),
+    match clear_all(alloc, width, list, coordinates, place) {
+        Ok(cleared) => taken_out(alloc, width, cleared),
         Err(refusal) => Err(refusal),
     }
 }
@@ -41,35 +57,91 @@ pub(crate) fn multiples<T: Scalar>(
     alloc: Global,
     width: usize,
     base: &[Row<T>],
+    coordinates: &[Coordinate<T>],
     form: &Row<T>,
     modulus: T,
-) -> Result<Vec<Row<T>>, Num>
+) -> Result<DualBase<T>, Num>
     requires modulus { pos 1 ≤ℤ T.integer modulus }
     requires width { length form.now ≡ width }
     requires widths { Each (HasWidth width) base.now }
-    ensures { IfOk result (λ r. IsCongruenceStep form.now (T.integer modulus) base.now r.items) }
+    requires dual { AreDual width base.now coordinates.now }
+    ensures step { IfOk result (λ r. IsCongruenceStep form.now (T.integer modulus) base.now r.base.items) }
+    ensures dual { IfOk result (λ r. AreDual width r.base.items r.coordinates.items) }
 {
     let list = match with_remainders(alloc, base, form, modulus) {
         Ok(list) => list,
         Err(refusal) => return Err(refusal),
     };
+    let coordinates = match copies(alloc, coordinates) {
+        Ok(coordinates) => coordinates,
+        Err(refusal) => return Err(refusal),
+    };
     let place = match least(list.as_slice()) {
         Some(place) => place,
-        None => return rows(alloc, list),
+        None => return unchanged(alloc, list, coordinates),
     };
-    match clear_all(alloc, width, list, place) {
-        Ok(cleared) => multiplied(alloc, cleared, modulus),
+    match clear_all(alloc, width, list, coordinates, place) {
+        Ok(cleared) => multiplied(alloc, width, cleared, modulus),
+        Err(refusal) => Err(refusal),
+    }
+}
+
+fn unchanged<T: Scalar>(
+    alloc: Global,
+    list: Vec<Valued<T>>,
+    coordinates: Vec<Coordinate<T>>,
+) -> Result<DualBase<T>, Num>
+    ensures { IfOk result (λ r. (r.base.items ≡ vectors_of list.items) × (r.coordinates.items ≡ coordinates.items)) }
+{
+    match rows(alloc, list) {
+        Ok(base) => Ok(DualBase { base, coordinates }),
+        Err(refusal) => Err(refusal),
+    }
+}
+
+// The cleared base without the vector that has a value.
+fn taken_out<T: Scalar>(
+    alloc: Global,
+    width: usize,
+    cleared: Cleared<T>,
+) -> Result<DualBase<T>, Num>
+    requires inside { cleared.place ≤ length cleared.others.items }
+    requires dual { AreDual width (vectors_of (insert cleared.others.items cleared.place cleared.own)) cleared.coordinates.items }
+    ensures left { IfOk result (λ r. r.base.items ≡ vectors_of cleared.others.items) }
+    ensures dual { IfOk result (λ r. AreDual width r.base.items r.coordinates.items) }
+{
+    let Cleared {
+        place,
+        others,
+        mut coordinates,
+        ..
+    } = cleared;
+    coordinates.remove(place);
+    match rows(alloc, others) {
+        Ok(base) => Ok(DualBase { base, coordinates }),
         Err(refusal) => Err(refusal),
     }
 }
 
 // The cleared base with a multiple of the vector that has a remainder.
-fn multiplied<T: Scalar>(alloc: Global, cleared: Cleared<T>, modulus: T) -> Result<Vec<Row<T>>, Num>
+fn multiplied<T: Scalar>(
+    alloc: Global,
+    width: usize,
+    cleared: Cleared<T>,
+    modulus: T,
+) -> Result<DualBase<T>, Num>
     requires modulus { pos 1 ≤ℤ T.integer modulus }
     requires inside { cleared.place ≤ length cleared.others.items }
-    ensures { IfOk result (λ r. IsMultiplied (T.integer modulus) cleared.place cleared.own (vectors_of cleared.others.items) r.items) }
+    requires dual { AreDual width (vectors_of (insert cleared.others.items cleared.place cleared.own)) cleared.coordinates.items }
+    ensures multiplied { IfOk result (λ r. IsMultiplied (T.integer modulus) cleared.place cleared.own (vectors_of cleared.others.items) r.base.items) }
+    ensures dual { IfOk result (λ r. AreDual width r.base.items r.coordinates.items) }
 {
-    let Cleared { place, own, others } = cleared;
+    let Cleared {
+        place,
+        own,
+        others,
+        mut coordinates,
+    } = cleared;
     let factor = match cofactor(own.value, modulus) {
         Some(factor) => factor,
         None => return Err(Num::Range),
@@ -78,13 +150,34 @@ fn multiplied<T: Scalar>(alloc: Global, cleared: Cleared<T>, modulus: T) -> Resu
         Ok(row) => row,
         Err(refusal) => return Err(refusal),
     };
-    let mut rows = match rows(alloc, others) {
-        Ok(rows) => rows,
+    let coordinate = match over(alloc, &coordinates[place], factor) {
+        Ok(coordinate) => coordinate,
         Err(refusal) => return Err(refusal),
     };
-    match rows.insert(place, row) {
-        Ok(()) => Ok(rows),
+    coordinates[place] = coordinate;
+    let mut base = match rows(alloc, others) {
+        Ok(base) => base,
+        Err(refusal) => return Err(refusal),
+    };
+    match base.insert(place, row) {
+        Ok(()) => Ok(DualBase { base, coordinates }),
         Err(_) => Err(Num::NoMemory),
+    }
+}
+
+// The coordinate at a multiple of its vector.
+fn over<T: Scalar>(
+    alloc: Global,
+    coordinate: &Coordinate<T>,
+    factor: T,
+) -> Result<Coordinate<T>, Num>
+    requires divisor { pos 0 <ℤ coordinate.now.divisor }
+    requires factor { pos 0 <ℤ T.integer factor }
+    ensures { IfOk result (IsLowered coordinate.now.form (coordinate.now.divisor *ℤ T.integer factor)) }
+{
+    match coordinate.divisor.try_mul(factor) {
+        Some(divisor) => lowest(alloc, &coordinate.form, divisor),
+        None => Err(Num::Range),
     }
 }
 

@@ -7,7 +7,9 @@
 
 mod basis;
 mod clearing;
+mod coordinates;
 mod cutting;
+mod gathering;
 mod pivots;
 mod units;
 mod valued;

@@ -12,7 +12,7 @@ loop-place-preserved g c =
     let vs = c.self.inside.base.items in
     let i = c.loop-place.place in
     let cs = c.args.coordinates.now in
-    let wide = c.self.invariant.widths in
+    let wide = c.self.invariant.0.widths in
     let n = length-combination w cs vs wide in
     let within : i < length (combination w cs vs) = omega (arith, n, c.loop-place-test.true) in
     let column : c.in-Ok-column.column ≡ column_of vs i = c.in-Ok-column.ensures ∙ ap (λ (us : List Vector). column_of us i) c.as_slice.ensures.value in
@@ -27,5 +27,5 @@ returns g c =
     let w = c.self.inside.width in
     let vs = c.self.inside.base.items in
     let cs = c.args.coordinates.now in
-    let n = length-combination w cs vs c.self.invariant.widths in
+    let n = length-combination w cs vs c.self.invariant.0.widths in
     c.from_vec.ensures ∙ c.loop-place.invariant.2 ∙ take_all c.loop-place.place (combination w cs vs) (omega (arith, n, c.loop-place-test.false)) ∙ ap (λ b. combination b.width cs b.vectors) c.self.view_is

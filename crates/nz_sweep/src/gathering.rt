@@ -1,0 +1,116 @@
+// What clearing makes of the coordinate at the pivot: it gathers the others', as often as it is
+// taken from their vectors.
+ghost use Rattle.std.specs.Prelude.{◌≡◌, ◌≢◌, ◌+◌, ◌<◌, ◌<ℤ◌, pos, length, IfOk, IfSome};
+ghost use Rattle.nz_spec.specs.Vectors.{entry};
+ghost use Rattle.nz_scalar.specs.Division.{IsFloorQuotient};
+ghost use Rattle.nz_sweep.specs.Clearing.{values_of, vectors_of};
+ghost use Rattle.nz_sweep.specs.Duals.{AreDual, IsGathered, IsJoined};
+
+use crate::coordinates::{Coordinate, copied, lowest};
+use crate::valued::{Valued, is_zero};
+use nz_vec::{Num, Row, Scalar};
+use std::alloc::Global;
+
+/// The coordinate at the pivot once all others are reduced by it.
+pub(crate) fn gathered<T: Scalar>(
+    alloc: Global,
+    width: usize,
+    list: &[Valued<T>],
+    coordinates: &[Coordinate<T>],
+    place: usize,
+) -> Result<Coordinate<T>, Num>
+    requires inside { place < length list.now }
+    requires nonzero { entry (values_of list.now) place ≢ pos 0 }
+    requires one_each { length coordinates.now ≡ length list.now }
+    requires dual { AreDual width (vectors_of list.now) coordinates.now }
+    ensures { IfOk result (IsGathered width list.now place (length list.now)) }
+{
+    let mut own = match copied(&coordinates[place]) {
+        Ok(own) => own,
+        Err(refusal) => return Err(refusal),
+    };
+    for index in 0..list.len() {
+        own = match gathered_one(alloc, width, list, coordinates, place, index, own) {
+            Ok(own) => own,
+            Err(refusal) => return Err(refusal),
+        };
+    }
+    Ok(own)
+}
+
+// The same once one vector more is reduced.
+fn gathered_one<T: Scalar>(
+    alloc: Global,
+    width: usize,
+    list: &[Valued<T>],
+    coordinates: &[Coordinate<T>],
+    place: usize,
+    index: usize,
+    own: Coordinate<T>,
+) -> Result<Coordinate<T>, Num>
+    requires inside { place < length list.now }
+    requires index { index < length list.now }
+    requires nonzero { entry (values_of list.now) place ≢ pos 0 }
+    requires one_each { length coordinates.now ≡ length list.now }
+    requires dual { AreDual width (vectors_of list.now) coordinates.now }
+    requires so_far { IsGathered width list.now place index own }
+    ensures { IfOk result (IsGathered width list.now place (index + 1)) }
+{
+    if index == place {
+        return Ok(own);
+    }
+    if is_zero(&list[index]) {
+        return Ok(own);
+    }
+    let quotient = match quotient(&list[index], &list[place]) {
+        Some(quotient) => quotient,
+        None => return Err(Num::Range),
+    };
+    joined(alloc, quotient, &own, &coordinates[index])
+}
+
+// How often the value of `own` goes into that of another.
+fn quotient<T: Scalar>(other: &Valued<T>, own: &Valued<T>) -> Option<T>
+    requires { own.now.value ≢ pos 0 }
+    ensures { IfSome result (λ q. IsFloorQuotient other.now.value own.now.value (T.integer q)) }
+{
+    other.value.floor_div(own.value)
+}
+
+// The sum of `own` and the quotient times another, over their least common divisor.
+fn joined<T: Scalar>(
+    alloc: Global,
+    quotient: T,
+    own: &Coordinate<T>,
+    other: &Coordinate<T>,
+) -> Result<Coordinate<T>, Num>
+    requires own { pos 0 <ℤ own.now.divisor }
+    requires other { pos 0 <ℤ other.now.divisor }
+    requires width { length own.now.form ≡ length other.now.form }
+    ensures { IfOk result (IsJoined (T.integer quotient) own.now other.now) }
+{
+    let common = match own.divisor.gcd(other.divisor) {
+        Some(common) => common,
+        None => return Err(Num::Range),
+    };
+    let first = match other.divisor.floor_div(common) {
+        Some(first) => first,
+        None => return Err(Num::Range),
+    };
+    let second = match own.divisor.floor_div(common) {
+        Some(second) => second,
+        None => return Err(Num::Range),
+    };
+    let divisor = match first.try_mul(own.divisor) {
+        Some(divisor) => divisor,
+        None => return Err(Num::Range),
+    };
+    let factor = match quotient.try_mul(second) {
+        Some(factor) => factor,
+        None => return Err(Num::Range),
+    };
+    match Row::combine(alloc, first, &own.form, factor, &other.form) {
+        Ok(form) => lowest(alloc, &form, divisor),
+        Err(refusal) => Err(refusal),
+    }
+}
