@@ -8,3 +8,4 @@ pub mod StepLemmas
 pub mod PlaceLemmas
 pub mod DualLemmas
 pub mod LowerLemmas
+pub mod InsideLemmas

@@ -1,6 +1,6 @@
 -- The coordinates of a base: for each vector a form and a divisor, so that the form divided by it is the coordinate at that vector.
 use Rattle.std.specs.Prelude.{◌≡◌, ◌≢◌, ℕ, ◌<◌, ◌≤◌, List, [], length, get_or, ℤ, pos, ◌*ℤ◌, ◌<ℤ◌}
-use Rattle.nz_spec.specs.Vectors.{Vector, dot, plus, scaled, entry, HasWidth}
+use Rattle.nz_spec.specs.Vectors.{Vector, dot, plus, scaled, entry, HasWidth, IsMultipleOf}
 use Rattle.nz_scalar.specs.Division.{IsFloorQuotient}
 use Rattle.nz_sweep.specs.Clearing.{Valued, vectors_of, values_of}
 
@@ -51,3 +51,13 @@ pub record IsGathered (w : ℕ) (vs : List Valued) (place n : ℕ) (c : Coordina
   pub own : dot c.form (vector_at (vectors_of vs) place) ≡ c.divisor
   pub seen : (i : ℕ) → i < n → i < length vs → i ≢ place → (q : ℤ) → IsFloorQuotient (entry (values_of vs) i) (entry (values_of vs) place) q → dot c.form (vector_at (vectors_of vs) i) ≡ q *ℤ c.divisor
   pub unseen : (i : ℕ) → n ≤ i → i < length vs → i ≢ place → dot c.form (vector_at (vectors_of vs) i) ≡ pos 0
+
+-- q is the coordinate of x
+abbrev pub IsWholeAt : Vector → Coordinate → ℤ → Type 0
+IsWholeAt x c q = dot c.form x ≡ q *ℤ c.divisor
+
+-- some coordinate of x is not whole
+pub record HasFraction (x : Vector) (cs : List Coordinate) : Type 0 where
+  pub place : ℕ
+  pub within : place < length cs
+  pub fraction : ¬ IsMultipleOf (coordinate_at cs place).divisor (dot (coordinate_at cs place).form x)

@@ -1,12 +1,14 @@
-ghost use Rattle.std.specs.Prelude.{◌≡◌, ◌<◌, ◌≤ℤ◌, ℤ, pos, IfOk, OnOk, OnErr, MatchResult, length};
+ghost use Rattle.std.specs.Prelude.{◌≡◌, ◌<◌, ◌≤ℤ◌, ℤ, pos, IfOk, OnOk, OnErr, MatchOption, MatchResult, length};
 ghost use Rattle.std.specs.List.{AllByRecursion as Each};
 ghost use Rattle.nz_spec.specs.Vectors.{combination, dot, unit_vectors, HasWidth, IsMultipleOf};
+ghost use Rattle.nz_spec.specs.Sums.{IsInGroup};
 ghost use Rattle.nz_linear.specs.Coordinates.{in_coordinates};
 ghost use Rattle.nz_sweep.specs.Bases.{IsBase, column_of, CombinationSumsFit, ValueSumsFit};
 ghost use Rattle.nz_sweep.specs.Cuts.{IsCut, IsEquationStep, IsCongruenceStep};
 
 use crate::coordinates::{Coordinate, unit_coordinates};
 use crate::cutting::{multiples, zeros};
+use crate::inside::{is_combination, whole_coordinates};
 use crate::units::units;
 use nz_vec::{NoMemory, Num, Row, Scalar};
 use std::alloc::Global;
@@ -125,6 +127,27 @@ impl<T: Scalar> Basis<T> {
         Ok(Row::from_vec(entries))
     }
 
+    /// The coordinates of a vector of the lattice, which is their combination. None exactly where the
+    /// vector is not in the lattice.
+    pub fn coordinates(&self, alloc: Global, x: &Row<T>) -> Result<Option<Row<T>>, Num>
+        requires { length x.now ≡ self.now.width }
+        ensures { IfOk result (λ o. MatchOption o (¬ IsInGroup self.now.width self.now.vectors x.now) (λ c. (length c ≡ length self.now.vectors) × (combination self.now.width c self.now.vectors ≡ x.now))) }
+    {
+        let whole = match whole_coordinates(alloc, self.width, self.coordinates.as_slice(), x) {
+            Ok(whole) => whole,
+            Err(refusal) => return Err(refusal),
+        };
+        let factors = match whole {
+            Some(factors) => factors,
+            None => return Ok(None),
+        };
+        match is_combination(alloc, self.width, self.base.as_slice(), &factors, x) {
+            Ok(true) => Ok(Some(factors)),
+            Ok(false) => Ok(None),
+            Err(refusal) => Err(refusal),
+        }
+    }
+
     /// The form on coordinates: its values at the vectors. Range comes only where a product, or a
     /// sum of the first products for one value, is no value of the type.
     pub fn pull(&self, alloc: Global, form: &Row<T>) -> Result<Row<T>, Num>
@@ -145,8 +168,8 @@ impl<T: Scalar> Basis<T> {
     }
 }
 
-// The entries of the vectors at one column.
-fn column<T: Scalar>(
+/// The entries of the vectors at one column.
+pub(crate) fn column<T: Scalar>(
     alloc: Global,
     base: &[Row<T>],
     place: usize,

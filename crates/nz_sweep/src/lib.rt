@@ -10,6 +10,7 @@ mod clearing;
 mod coordinates;
 mod cutting;
 mod gathering;
+mod inside;
 mod pivots;
 mod units;
 mod valued;

@@ -1,0 +1,105 @@
+// Whether a vector is inside a lattice: its coordinates are whole, and it is their combination.
+ghost use Rattle.std.specs.Prelude.{◌≡◌, ◌↔◌, ℕ, ◌<◌, ◌<ℤ◌, ◌*ℤ◌, pos, length, IfOk, IsTrue, MatchBool, MatchOption};
+ghost use Rattle.std.specs.List.{AllByRecursion as Each, AllZip};
+ghost use Rattle.nz_spec.specs.Vectors.{combination, dot, HasWidth, IsMultipleOf};
+ghost use Rattle.nz_sweep.specs.Duals.{coordinate_at, HasFraction, IsWholeAt};
+
+use crate::basis::column;
+use crate::coordinates::Coordinate;
+use nz_vec::{Num, Row, Scalar};
+use std::alloc::Global;
+
+/// The coordinates of a vector. None where one of them is not whole.
+pub(crate) fn whole_coordinates<T: Scalar>(
+    alloc: Global,
+    width: usize,
+    coordinates: &[Coordinate<T>],
+    x: &Row<T>,
+) -> Result<Option<Row<T>>, Num>
+    requires x { length x.now ≡ width }
+    requires widths { (i : ℕ) → i < length coordinates.now → HasWidth width (coordinate_at coordinates.now i).form }
+    requires positive { (i : ℕ) → i < length coordinates.now → pos 0 <ℤ (coordinate_at coordinates.now i).divisor }
+    ensures { IfOk result (λ o. MatchOption o (HasFraction x.now coordinates.now) (λ c. AllZip (IsWholeAt x.now) coordinates.now c)) }
+{
+    let mut entries = match Vec::with_capacity(alloc, coordinates.len()) {
+        Ok(entries) => entries,
+        Err(_) => return Err(Num::NoMemory),
+    };
+    for place in 0..coordinates.len() {
+        let whole = match whole_coordinate(&coordinates[place], x) {
+            Ok(whole) => whole,
+            Err(refusal) => return Err(refusal),
+        };
+        match whole {
+            Some(entry) => entries.push_reserved(entry),
+            None => return Ok(None),
+        }
+    }
+    Ok(Some(Row::from_vec(entries)))
+}
+
+fn whole_coordinate<T: Scalar>(coordinate: &Coordinate<T>, x: &Row<T>) -> Result<Option<T>, Num>
+    requires width { length coordinate.now.form ≡ length x.now }
+    requires positive { pos 0 <ℤ coordinate.now.divisor }
+    ensures { IfOk result (λ o. MatchOption o (¬ IsMultipleOf coordinate.now.divisor (dot coordinate.now.form x.now)) (λ q. IsWholeAt x.now coordinate.now (T.integer q))) }
+{
+    let value = match coordinate.form.dot(x) {
+        Some(value) => value,
+        None => return Err(Num::Range),
+    };
+    let quotient = match value.floor_div(coordinate.divisor) {
+        Some(quotient) => quotient,
+        None => return Err(Num::Range),
+    };
+    let product = match quotient.try_mul(coordinate.divisor) {
+        Some(product) => product,
+        None => return Ok(None),
+    };
+    if is_same(product, value) {
+        return Ok(Some(quotient));
+    }
+    Ok(None)
+}
+
+fn is_same<T: Scalar>(a: T, b: T) -> bool
+    ensures { IsTrue result ↔ (T.integer a ≡ T.integer b) }
+{
+    a == b
+}
+
+/// Whether a vector is the combination of a base with these factors.
+pub(crate) fn is_combination<T: Scalar>(
+    alloc: Global,
+    width: usize,
+    base: &[Row<T>],
+    factors: &Row<T>,
+    x: &Row<T>,
+) -> Result<bool, Num>
+    requires factors { length factors.now ≡ length base.now }
+    requires x { length x.now ≡ width }
+    requires widths { Each (HasWidth width) base.now }
+    ensures { IfOk result (λ b. MatchBool b (combination width factors.now base.now ≡ x.now) (¬ (combination width factors.now base.now ≡ x.now))) }
+{
+    for place in 0..width {
+        let column = match column(alloc, base, place, width) {
+            Ok(column) => column,
+            Err(refusal) => return Err(Num::from(refusal)),
+        };
+        match is_sum(factors, &column, x.at(place)) {
+            Ok(true) => {}
+            Ok(false) => return Ok(false),
+            Err(refusal) => return Err(refusal),
+        }
+    }
+    Ok(true)
+}
+
+fn is_sum<T: Scalar>(factors: &Row<T>, column: &Row<T>, entry: T) -> Result<bool, Num>
+    requires { length factors.now ≡ length column.now }
+    ensures { IfOk result (λ b. MatchBool b (dot factors.now column.now ≡ T.integer entry) (¬ (dot factors.now column.now ≡ T.integer entry))) }
+{
+    match factors.dot(column) {
+        Some(sum) => Ok(is_same(sum, entry)),
+        None => Err(Num::Range),
+    }
+}
