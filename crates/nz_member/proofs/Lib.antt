@@ -1,2 +1,6 @@
 pub mod Multiples
 pub mod Meetings
+pub mod AmountLaws
+pub mod MonoidLaws
+pub mod PartsByValues
+pub mod AmountSteps

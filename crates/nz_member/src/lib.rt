@@ -1,10 +1,21 @@
-//! Whether a vector meets constraints.
-//! Its contract: `member` answers whether every constraint holds, or says that a value leaves the type.
-//! Below it stand the definitions, and the rows and constraints of `nz_vec`.
+//! Whether a vector meets constraints, and the parts of one that does.
+//! Its contract: `answer` gives the first constraint that fails at a vector, or how often each element is taken from it.
+//! Below it stand the definitions, the lemmas on parts of `nz_order`, and the rows and constraints of `nz_vec`.
 //! A solver answers the asked vectors of a file with it.
-//! Start with `specs/Values.antt`, then `member`.
+//! Start with `specs/Replies.antt`, then `answer`.
 #![tactic(auto)]
 
+mod answering;
+mod heights;
+mod leftover;
 mod meeting;
+mod parts;
+mod reply;
+mod taking;
 
+pub use answering::answer;
 pub use meeting::member;
+pub use reply::Reply;
+
+#[cfg(test)]
+mod tests;

@@ -1,26 +1,43 @@
-ghost use Rattle.std.specs.Prelude.{◌≡◌, ◌<◌, ℤ, pos, ◌≤ℤ◌, length, MatchBool, MatchOption};
+ghost use Rattle.std.specs.Prelude.{◌≡◌, ◌<◌, ℤ, pos, ◌≤ℤ◌, length, MatchBool, MatchOption, MatchResult};
 ghost use Rattle.std.specs.List.{AllByRecursion as Each};
 ghost use Rattle.nz_spec.specs.Vectors.{Vector, IsMultipleOf};
 ghost use Rattle.nz_spec.specs.Constraints.{Meets, MeetsAll, form_of};
 ghost use Rattle.nz_vec.specs.Conditions.{condition_of};
 ghost use Rattle.nz_vec.specs.Sums.{SumsFit};
+ghost use Rattle.nz_member.specs.Replies.{FindsBroken};
 ghost use Rattle.nz_member.specs.Values.{IsOfWidth, LacksValue};
 
-use nz_vec::{Constraint, Constraints, Row, Scalar};
+use nz_vec::{Constraint, Constraints, Num, Row, Scalar};
 
 /// Whether every constraint holds at the vector. None only where the value of a form leaves the type.
 pub fn member<T: Scalar>(constraints: &Constraints<T>, x: &Row<T>) -> Option<bool>
     requires { Each (IsOfWidth (length x.now)) constraints.now }
     ensures { MatchOption result (LacksValue T.fits constraints.now x.now) (λ b. MatchBool b (MeetsAll constraints.now x.now) (¬ MeetsAll constraints.now x.now)) }
 {
+    match first_broken(constraints, x) {
+        Ok(None) => Some(true),
+        Ok(Some(_)) => Some(false),
+        Err(_) => None,
+    }
+}
+
+/// The place of the first constraint that fails at the vector. Range only where the value of a
+/// form leaves the type. Takes no memory.
+pub(crate) fn first_broken<T: Scalar>(
+    constraints: &Constraints<T>,
+    x: &Row<T>,
+) -> Result<Option<usize>, Num>
+    requires { Each (IsOfWidth (length x.now)) constraints.now }
+    ensures { MatchResult result (FindsBroken constraints.now x.now) (λ e. (e ≡ Num.Range) × LacksValue T.fits constraints.now x.now) }
+{
     for place in 0..constraints.len() {
         match holds(constraints.at(place), x) {
             Some(true) => {}
-            Some(false) => return Some(false),
-            None => return None,
+            Some(false) => return Ok(Some(place)),
+            None => return Err(Num::Range),
         }
     }
-    Some(true)
+    Ok(None)
 }
 
 // Whether the constraint holds at the vector.
@@ -70,7 +87,7 @@ fn is_multiple<T: Scalar>(value: T, modulus: T) -> bool
     }
 }
 
-fn is_same<T: Scalar>(a: T, b: T) -> bool
+pub(crate) fn is_same<T: Scalar>(a: T, b: T) -> bool
     ensures { MatchBool result (T.integer a ≡ T.integer b) (¬ (T.integer a ≡ T.integer b)) }
 {
     a == b
