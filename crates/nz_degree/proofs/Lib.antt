@@ -1,3 +1,4 @@
 pub mod DegreeLists
 pub mod Firsts
 pub mod RankLaws
+pub mod ElementLaws

@@ -1,3 +1,4 @@
 pub mod Degrees
 pub mod Positivities
 pub mod Ranks
+pub mod Elements

@@ -6,12 +6,14 @@
 #![tactic(auto)]
 
 mod checking;
+mod elements;
 mod picking;
 mod positivity;
 mod ranked;
 mod sorting;
 
 pub use checking::check;
+pub use elements::degrees_are_elements;
 pub use picking::degree_one;
 pub use positivity::Positivity;
 pub use sorting::sort;
