@@ -4,3 +4,4 @@ pub mod AmountLaws
 pub mod MonoidLaws
 pub mod PartsByValues
 pub mod AmountSteps
+pub mod MemberLists

@@ -9,12 +9,14 @@ mod answering;
 mod heights;
 mod leftover;
 mod meeting;
+mod members;
 mod parts;
 mod reply;
 mod taking;
 
 pub use answering::answer;
 pub use meeting::member;
+pub use members::members_have_parts;
 pub use reply::Reply;
 
 #[cfg(test)]
