@@ -1,6 +1,10 @@
+pub mod CauseLemmas
 pub mod ClassLaws
+pub mod EntryLemmas
 pub mod PutLemmas
-pub mod RestLemmas
+pub mod SimplexLemmas
 pub mod SortLemmas
+pub mod StepLemmas
+pub mod SumLemmas
 pub mod UnitLemmas
 pub mod WalkLemmas

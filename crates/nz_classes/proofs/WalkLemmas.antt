@@ -33,7 +33,7 @@ use Rattle.nz_classes.specs.Classes.{IsPoint, HasReducedValues, IsRestOf}
 use Rattle.nz_classes.specs.Steps.{IsPut, IsFull, Extends, IsPart, Reaches, IsExpanded, IsNotFalling}
 use Rattle.nz_classes.specs.Walks.{paired, IsFullSimplex, ListsPoints, IsRefusal}
 use Rattle.nz_classes.proofs.ClassLaws.{all_found}
-use Rattle.nz_classes.proofs.RestLemmas.{class_refl, vectors-paired, length-paired}
+use Rattle.nz_classes.proofs.SimplexLemmas.{class_refl, vectors-paired, length-paired}
 use Rattle.nz_classes.proofs.SortLemmas.{in_order_list}
 use Rattle.nz_classes.proofs.UnitLemmas.{length-unit_vectors, unit_vector_at}
 
@@ -105,14 +105,14 @@ put_part w ps limit old x new p l r h m =
     record { different = d.different; wide = d.wide; reduced = d.reduced; within = m }
 
 -- a list that has become too long shows that there are too many points
-pub full_refusal : (sides forms : List Vector) → IsFullSimplex sides forms → (limit : ℕ) (old : List Vector) (x : Vector) (new : List Vector) → IsPart (length sides) (paired forms sides) limit old → HasWidth (length sides) x → HasReducedValues (paired forms sides) x → (e : Work) → IsFull limit old x new e → IsRefusal limit sides e
-full_refusal sides forms s limit old x new p l r (Range told) h = absurd h
-full_refusal sides forms s limit old x new p l r TooMany h =
+pub full_refusal : (sides forms : List Vector) → IsFullSimplex sides forms → (bound limit : ℕ) (old : List Vector) (x : Vector) (new : List Vector) → IsPart (length sides) (paired forms sides) limit old → HasWidth (length sides) x → HasReducedValues (paired forms sides) x → (e : Work) → IsFull limit old x new e → IsRefusal bound limit sides forms e
+full_refusal sides forms s bound limit old x new p l r (Range told) h = absurd h
+full_refusal sides forms s bound limit old x new p l r TooMany h =
     let w = length sides in
     let d = put_distinct w (paired forms sides) limit old x new p l r h.0 in
     MoreThan-list (IsPoint w sides) new limit d.different (Each-from_contains (IsPoint w sides) new (λ y c. point_of sides forms s y (Each-contains (HasWidth w) new y d.wide c) (Each-contains (HasReducedValues (paired forms sides)) new y d.reduced c))) h.1
-full_refusal sides forms s limit old x new p l r (Stopped stage) h = absurd h
-full_refusal sides forms s limit old x new p l r NoMemory h = tt
+full_refusal sides forms s bound limit old x new p l r (Stopped stage) h = absurd h
+full_refusal sides forms s bound limit old x new p l r NoMemory h = tt
 
 pub part_none : (w : ℕ) (ps : List Pair) (limit : ℕ) → IsPart w ps limit []
 part_none w ps limit = record { different = tt; wide = tt; reduced = tt; within = omega arith }
@@ -214,14 +214,3 @@ points_listed sides forms s limit found p all z xs perm up =
     let l = length_permutation found xs perm in
     let m = p.within in
     (in_order_list (length sides) (IsPoint (length sides) sides) (λ x h. h.0) found xs (points_once sides forms s limit found p all z) perm up, omega (arith, l, m))
-
--- ---- the first step of a neighbour
-pub moved_is : (x u z y : Vector) (w : ℕ) (ps : List Pair) → z ≡ plus (scaled (pos 1) x) (scaled (pos 1) u) → IsRestOf w ps z y → IsRestOf w ps (plus x u) y
-moved_is x u z y w ps e r = subst (λ (v : Vector). IsRestOf w ps v y) (e ∙ ap (λ (v : Vector). plus v (scaled (pos 1) u)) (one-scaled x) ∙ ap (plus x) (one-scaled u)) r
-
-pub moved_width : (x u z : Vector) (w : ℕ) → z ≡ plus (scaled (pos 1) x) (scaled (pos 1) u) → HasWidth w x → HasWidth w u → HasWidth w z
-moved_width x u z w e l m = ap length e ∙ length-plus w (scaled (pos 1) x) (scaled (pos 1) u) (length-scaled w (pos 1) x l) (length-scaled w (pos 1) u m)
-
--- the sum of a vector and a unit vector, as it is formed
-pub unit_added : (x u z : Vector) (w n j : ℕ) (k : ℤ) → z ≡ plus (scaled k x) (scaled k u) → k ≡ pos 1 → u ≡ unit_at n j → n ≡ w → z ≡ plus (scaled (pos 1) x) (scaled (pos 1) (unit_at w j))
-unit_added x u z w n j k e f h m = e ∙ ap (λ (t : ℤ). plus (scaled t x) (scaled t u)) f ∙ ap (λ (v : Vector). plus (scaled (pos 1) x) (scaled (pos 1) v)) (h ∙ ap (λ (i : ℕ). unit_at i j) m)

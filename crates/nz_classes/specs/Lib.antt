@@ -1,3 +1,5 @@
+pub mod Causes
 pub mod Classes
 pub mod Steps
+pub mod Sums
 pub mod Walks

@@ -1,19 +1,74 @@
 -- What is held on the way through the classes.
-use Rattle.std.specs.Prelude.{◌≡◌, ◌≢◌, ◌⊎◌, ⊤, ℕ, ◌+◌, ◌<◌, ◌≤◌, List, [], ◌∷◌, ◌++◌, length, slice_index_or, pos, ℤ, neg_ℤ, Contains}
-use Rattle.std.specs.List.{AllByRecursion as Each}
-use Rattle.nz_spec.specs.Vectors.{Vector, dot, plus, scaled, unit_vectors, HasWidth}
-use Rattle.nz_spec.specs.Boxes.{IsFloor}
+use Rattle.std.specs.Prelude.{◌≡◌, ◌≢◌, ◌⊎◌, ⊤, ℕ, ◌+◌, ◌<◌, ◌≤◌, List, [], ◌∷◌, ◌++◌, length, map, take, slice_index_or, pos, negsuc, ℤ, ◌+ℤ◌, ◌*ℤ◌, ◌≤ℤ◌, ◌<ℤ◌, Contains}
+use Rattle.std.specs.List.{AllByRecursion as Each, AllZip}
+use Rattle.nz_spec.specs.Vectors.{Vector, plus, combination, values_at, unit_vectors, entry, HasWidth}
 use Rattle.nz_spec.specs.Order.{IsLexBefore, Pairwise}
-use Rattle.nz_linear.specs.DualPairs.{Pair}
+use Rattle.nz_linear.specs.DualPairs.{Pair, divisor}
+use Rattle.nz_scalar.specs.Division.{IsFloorQuotient}
+use Rattle.nz_vec.specs.Combinations.{CombinationFits}
+use Rattle.nz_vec.specs.Sums.{SumsFit}
 use Rattle.nz_vec.specs.declared.answers.Work.{Work}
 use Rattle.nz_vec.specs.declared.answers.Work.TheVariants.{Range, TooMany, Stopped, NoMemory}
-use Rattle.nz_classes.specs.Classes.{AreOneClass, HasReducedValues}
+use Rattle.nz_classes.specs.Classes.{AreOneClass, HasReducedValues, IsRestOf}
+use Rattle.nz_classes.specs.Sums.{sum_of}
+use Rattle.nz_classes.specs.Walks.{paired, IsFullSimplex}
 
--- y is x less the side, taken as often as the floor of the form's value by its divisor says
-pub record IsFloorLess (form side x y : Vector) : Type 0 where
-  pub floor : ℤ
-  pub is_floor : IsFloor (dot form side) (dot form x) floor
-  pub same : y ≡ plus (scaled (pos 1) x) (scaled (neg_ℤ floor) side)
+-- a simplex with the divisors of its forms, the points in the classes of the unit vectors, and the values of the forms at these
+pub record IsPrepared (sides forms : List Vector) (divisors : List ℤ) (units values : List Vector) : Type 0 where
+  pub simplex : IsFullSimplex sides forms
+  pub divisors_are : divisors ≡ map divisor (paired forms sides)
+  pub unit_points : AllZip (IsRestOf (length sides) (paired forms sides)) (unit_vectors (length sides)) units
+  pub values_are : values ≡ map (values_at forms) units
+
+-- a form has at a vector a product, or a sum of the first products, that is no value
+pub record HasValueOutside (fits : ℤ → Type 0) (fs xs : List Vector) : Type 0 where
+  pub form : Vector
+  pub vector : Vector
+  pub of_forms : Contains fs form
+  pub of_vectors : Contains xs vector
+  pub outside : ¬ SumsFit fits (pos 0) form vector
+
+-- one for each form, the floors of the values at a column by the divisors
+pub record AreQuotients (forms : List Vector) (divisors : List ℤ) (column : ℕ) (floors : List ℤ) : Type 0 where
+  pub one_each : length floors ≡ length forms
+  pub each : (i : ℕ) → i < length forms → IsFloorQuotient (entry (slice_index_or forms i []) column) (entry divisors i) (entry floors i)
+
+-- some partial sum of the vectors with their factors, and the next of them, cannot be added
+pub record HasSumOutside (fits : ℤ → Type 0) (w : ℕ) (factors : List ℤ) (vectors : List Vector) : Type 0 where
+  pub place : ℕ
+  pub within : place < length vectors
+  pub outside : ¬ CombinationFits fits (pos 1) (combination w (take place factors) vectors) (entry factors place) (slice_index_or vectors place [])
+
+-- k is -1 where s reaches d, and else 0
+abbrev pub IsCarry : ℤ → ℤ → ℤ → Type 0
+IsCarry s d k = ((d ≤ℤ s) × (k ≡ negsuc 0)) ⊎ ((s <ℤ d) × (k ≡ pos 0))
+
+-- so it is at each place of the sums of two lists
+pub record AreCarries (values more divisors carries : List ℤ) : Type 0 where
+  pub one_each : length carries ≡ length values
+  pub each : (i : ℕ) → i < length values → IsCarry (entry values i +ℤ entry more i) (entry divisors i) (entry carries i)
+
+-- two lists have at some place a sum that is no value
+pub record HasPairOutside (fits : ℤ → Type 0) (values more : List ℤ) : Type 0 where
+  pub place : ℕ
+  pub within : place < length values
+  pub outside : ¬ fits (entry values place +ℤ entry more place)
+
+-- the products of the factors and the entries of the vectors at a column
+abbrev pub products : List ℤ → List Vector → ℕ → List ℤ
+products [] vs j = []
+products (k ∷ ks) [] j = []
+products (k ∷ ks) (v ∷ vs) j = (k *ℤ entry v j) ∷ products ks vs j
+
+-- the terms of an entry of x + y + the sum of the vectors with their factors
+abbrev pub column_terms : Vector → Vector → List ℤ → List Vector → ℕ → List ℤ
+column_terms x y ks vs j = entry x j ∷ entry y j ∷ products ks vs j
+
+-- at some column the terms are values of the type, and their sum is none
+pub record HasColumnOutside (fits : ℤ → Type 0) (x y : Vector) (ks : List ℤ) (vs : List Vector) : Type 0 where
+  pub column : ℕ
+  pub within : column < length x
+  pub outside : Each fits (column_terms x y ks vs column) → ¬ fits (sum_of (column_terms x y ks vs column))
 
 -- x is put into the list: it stands there already, or comes after all others
 abbrev pub IsPut : List Vector → Vector → List Vector → Type 0

@@ -1,6 +1,7 @@
 -- What a walk through the classes of a simplex is to answer.
-use Rattle.std.specs.Prelude.{◌≡◌, ⊤, ℕ, ◌≤◌, List, [], ◌∷◌, length}
+use Rattle.std.specs.Prelude.{◌≡◌, ◌⊎◌, ⊤, ℕ, ◌+◌, ◌<◌, ◌≤◌, ◌*ℤ◌, unsigned_abs, List, [], ◌∷◌, length, Contains}
 use Rattle.nz_spec.specs.Vectors.{Vector}
+use Rattle.nz_spec.specs.Boxes.{IsFloorSum}
 use Rattle.nz_spec.specs.Order.{IsLexBefore, IsListOf, MoreThan}
 use Rattle.nz_linear.specs.DualPairs.{Pair, pair_of, IsDualPair, OnlyZero}
 use Rattle.nz_vec.specs.declared.answers.Work.{Work}
@@ -23,9 +24,28 @@ pub record IsFullSimplex (sides forms : List Vector) : Type 0 where
 abbrev pub ListsPoints : ℕ → List Vector → List Vector → Type 0
 ListsPoints limit sides xs = IsListOf IsLexBefore (IsPoint (length sides) sides) xs × (length xs ≤ limit)
 
--- why there is no list: there are more points than the limit, a number left its type, or memory is out
-abbrev pub IsRefusal : ℕ → List Vector → Work → Type 0
-IsRefusal limit sides (Range told) = told ≡ 0
-IsRefusal limit sides TooMany = MoreThan limit (IsPoint (length sides) sides)
-IsRefusal limit sides (Stopped stage) = ⊥
-IsRefusal limit sides NoMemory = ⊤
+-- the sum of the sizes of the entries
+abbrev pub measure : Vector → ℕ
+measure [] = 0
+measure (a ∷ x) = unsigned_abs a + measure x
+
+-- the sum of the sizes of the products of the entries
+abbrev pub pair_measure : Vector → Vector → ℕ
+pair_measure [] x = 0
+pair_measure (a ∷ f) [] = 0
+pair_measure (a ∷ f) (b ∷ x) = unsigned_abs (a *ℤ b) + pair_measure f x
+
+-- a point, a side or a floor sum of the simplex
+abbrev pub IsNamed : List Vector → Vector → Type 0
+IsNamed sides x = IsPoint (length sides) sides x ⊎ (Contains sides x ⊎ IsFloorSum (length sides) sides x)
+
+-- a named vector or a form has a measure above the bound, or a form at a named vector has one
+abbrev pub IsTooLarge : ℕ → List Vector → List Vector → Type 0
+IsTooLarge bound sides forms = ((x : Vector) × (IsNamed sides x × (bound < measure x))) ⊎ (((f : Vector) × (Contains forms f × (bound < measure f))) ⊎ ((f : Vector) × (x : Vector) × (Contains forms f × IsNamed sides x × (bound < pair_measure f x))))
+
+-- why there is no list: there are more points than the limit, something of the simplex is too large, or memory is out
+abbrev pub IsRefusal : ℕ → ℕ → List Vector → List Vector → Work → Type 0
+IsRefusal bound limit sides forms (Range told) = (told ≡ 0) × IsTooLarge bound sides forms
+IsRefusal bound limit sides forms TooMany = MoreThan limit (IsPoint (length sides) sides)
+IsRefusal bound limit sides forms (Stopped stage) = ⊥
+IsRefusal bound limit sides forms NoMemory = ⊤

@@ -5,9 +5,12 @@
 //! Start reading at `specs/Walks.antt`, then `walk`.
 #![tactic(auto)]
 
+mod balance;
 mod found;
-mod rests;
+mod neighbours;
+mod steps;
 mod units;
+mod values;
 mod walking;
 
 pub use walking::walk;

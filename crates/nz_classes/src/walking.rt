@@ -1,14 +1,17 @@
-ghost use Rattle.std.specs.Prelude.{◌≡◌, ◌<◌, ◌≤◌, ℕ, ℤ, List, [], length, slice_index_or, IfOk, OnOk, MatchResult, Contains};
+ghost use Rattle.std.specs.Prelude.{◌≡◌, ◌<◌, ◌≤◌, ℕ, ℤ, List, [], length, unsigned_abs, slice_index_or, IfOk, OnOk, MatchResult};
 ghost use Rattle.std.specs.List.{AllByRecursion as Each};
-ghost use Rattle.nz_spec.specs.Vectors.{plus, HasWidth};
+ghost use Rattle.nz_spec.specs.Vectors.{plus, values_at, HasWidth};
 ghost use Rattle.nz_linear.specs.Echelon.{unit_at};
-ghost use Rattle.nz_classes.specs.Classes.{IsRestOf};
-ghost use Rattle.nz_classes.specs.Steps.{IsPart, IsPut, IsFull, IsExpanded, Extends, Reaches};
+ghost use Rattle.nz_classes.specs.Causes.{IsCaused};
+ghost use Rattle.nz_classes.specs.Classes.{HasReducedValues};
+ghost use Rattle.nz_classes.specs.Steps.{IsExpanded, IsFull, IsPart, IsPrepared, IsPut, Extends, Reaches};
 ghost use Rattle.nz_classes.specs.Walks.{paired, IsFullSimplex, IsRefusal, ListsPoints};
 
 use crate::found::Found;
-use crate::rests::rest;
-use crate::units::{unit, zero};
+use crate::neighbours::neighbour;
+use crate::steps::{Steps, prepare};
+use crate::units::zero;
+use crate::values::values_of;
 use nz_vec::{Num, Row, Rows, Scalar, Work};
 use std::alloc::Global;
 
@@ -17,8 +20,7 @@ use std::alloc::Global;
 /// and 0 at the others. The classes of vectors that differ by whole sums of the sides are a finite
 /// group that the unit vectors generate, and each has one point; the walk goes from 0 along the unit
 /// vectors until no new class is met (Bruns and Ichim, "Normaliz: algorithms for affine monoids and
-/// rational cones"). Range comes where a number of the walk is no value of the type; the contract
-/// does not yet bound the simplices at which that can be.
+/// rational cones").
 pub fn walk<T: Scalar>(
     alloc: Global,
     simplex: &Rows<T>,
@@ -26,13 +28,17 @@ pub fn walk<T: Scalar>(
     limit: u32,
 ) -> Result<Rows<T>, Work>
     requires { IsFullSimplex simplex.now forms.now }
-    ensures { MatchResult result (ListsPoints limit simplex.now) (IsRefusal limit simplex.now) }
+    ensures { MatchResult result (ListsPoints limit simplex.now) (IsRefusal (unsigned_abs T.HALF) limit simplex.now forms.now) }
 {
+    let steps = match prepare(alloc, simplex, forms) {
+        Ok(steps) => steps,
+        Err(refusal) => return Err(work_of(refusal)),
+    };
     let mut found = match begin(alloc, simplex.len(), limit) {
         Ok(found) => found,
         Err(refusal) => return Err(refusal),
     };
-    match close(alloc, simplex, forms, &mut found, limit) {
+    match close(alloc, &steps, &mut found, limit) {
         Ok(()) => {}
         Err(refusal) => return Err(refusal),
     }
@@ -61,18 +67,17 @@ fn begin<T: Scalar>(alloc: Global, width: usize, limit: u32) -> Result<Found<T>,
 /// place by place, says from which vectors none has been tried yet.
 fn close<T: Scalar>(
     alloc: Global,
-    sides: &Rows<T>,
-    forms: &Rows<T>,
+    steps: &Steps<T>,
     found: &mut Found<T>,
     limit: u32,
 ) -> Result<(), Work>
-    requires simplex { IsFullSimplex sides.now forms.now }
-    requires part { IsPart (length sides.now) (paired forms.now sides.now) limit found.old }
-    ensures { MatchResult result (λ _. IsPart (length sides.now) (paired forms.now sides.now) limit found.new × Extends found.old found.new × Each (IsExpanded (length sides.now) (paired forms.now sides.now) found.new) found.new) (IsRefusal limit sides.now) }
+    requires prepared { IsPrepared steps.now.sides.now steps.now.forms.now steps.now.divisors steps.now.units steps.now.values }
+    requires part { IsPart (length steps.now.sides.now) (paired steps.now.forms.now steps.now.sides.now) limit found.old }
+    ensures { MatchResult result (λ _. IsPart (length steps.now.sides.now) (paired steps.now.forms.now steps.now.sides.now) limit found.new × Extends found.old found.new × Each (IsExpanded (length steps.now.sides.now) (paired steps.now.forms.now steps.now.sides.now) found.new) found.new) (IsRefusal (unsigned_abs T.HALF) limit steps.now.sides.now steps.now.forms.now) }
 {
     let mut place = 0;
     while place < found.len() {
-        match expand(alloc, sides, forms, found, place, limit) {
+        match expand(alloc, steps, found, place, limit) {
             Ok(()) => {}
             Err(refusal) => return Err(refusal),
         }
@@ -84,39 +89,45 @@ fn close<T: Scalar>(
 /// Finds the classes to which the unit vectors lead from the vector at a place.
 fn expand<T: Scalar>(
     alloc: Global,
-    sides: &Rows<T>,
-    forms: &Rows<T>,
+    steps: &Steps<T>,
     found: &mut Found<T>,
     place: usize,
     limit: u32,
 ) -> Result<(), Work>
-    requires simplex { IsFullSimplex sides.now forms.now }
+    requires prepared { IsPrepared steps.now.sides.now steps.now.forms.now steps.now.divisors steps.now.units steps.now.values }
     requires place { place < length found.old }
-    requires part { IsPart (length sides.now) (paired forms.now sides.now) limit found.old }
-    ensures { MatchResult result (λ _. IsPart (length sides.now) (paired forms.now sides.now) limit found.new × Extends found.old found.new × IsExpanded (length sides.now) (paired forms.now sides.now) found.new (slice_index_or found.old place [])) (IsRefusal limit sides.now) }
+    requires part { IsPart (length steps.now.sides.now) (paired steps.now.forms.now steps.now.sides.now) limit found.old }
+    ensures { MatchResult result (λ _. IsPart (length steps.now.sides.now) (paired steps.now.forms.now steps.now.sides.now) limit found.new × Extends found.old found.new × IsExpanded (length steps.now.sides.now) (paired steps.now.forms.now steps.now.sides.now) found.new (slice_index_or found.old place [])) (IsRefusal (unsigned_abs T.HALF) limit steps.now.sides.now steps.now.forms.now) }
 {
-    match found.row(alloc, place) {
-        Ok(point) => steps(alloc, sides, forms, found, &point, limit),
-        Err(refusal) => Err(Work::from(refusal)),
-    }
+    let point = match found.row(alloc, place) {
+        Ok(point) => point,
+        Err(refusal) => return Err(Work::from(refusal)),
+    };
+    let values = match values_of(alloc, steps.forms, &point) {
+        Ok(values) => values,
+        Err(refusal) => return Err(work_of(refusal)),
+    };
+    spread(alloc, steps, found, &point, &values, limit)
 }
 
-/// Finds the classes to which the unit vectors lead from a vector.
-fn steps<T: Scalar>(
+/// Finds the classes to which the unit vectors lead from a point at which the forms have these values.
+fn spread<T: Scalar>(
     alloc: Global,
-    sides: &Rows<T>,
-    forms: &Rows<T>,
+    steps: &Steps<T>,
     found: &mut Found<T>,
     point: &Row<T>,
+    values: &Row<T>,
     limit: u32,
 ) -> Result<(), Work>
-    requires simplex { IsFullSimplex sides.now forms.now }
-    requires width { HasWidth (length sides.now) point.now }
-    requires part { IsPart (length sides.now) (paired forms.now sides.now) limit found.old }
-    ensures { MatchResult result (λ _. IsPart (length sides.now) (paired forms.now sides.now) limit found.new × Extends found.old found.new × IsExpanded (length sides.now) (paired forms.now sides.now) found.new point.now) (IsRefusal limit sides.now) }
+    requires prepared { IsPrepared steps.now.sides.now steps.now.forms.now steps.now.divisors steps.now.units steps.now.values }
+    requires width { HasWidth (length steps.now.sides.now) point.now }
+    requires reduced { HasReducedValues (paired steps.now.forms.now steps.now.sides.now) point.now }
+    requires values { values.now ≡ values_at steps.now.forms.now point.now }
+    requires part { IsPart (length steps.now.sides.now) (paired steps.now.forms.now steps.now.sides.now) limit found.old }
+    ensures { MatchResult result (λ _. IsPart (length steps.now.sides.now) (paired steps.now.forms.now steps.now.sides.now) limit found.new × Extends found.old found.new × IsExpanded (length steps.now.sides.now) (paired steps.now.forms.now steps.now.sides.now) found.new point.now) (IsRefusal (unsigned_abs T.HALF) limit steps.now.sides.now steps.now.forms.now) }
 {
-    for column in 0..sides.len() {
-        match step(alloc, sides, forms, found, point, column, limit) {
+    for column in 0..steps.sides.len() {
+        match step(alloc, steps, found, point, values, column, limit) {
             Ok(()) => {}
             Err(refusal) => return Err(refusal),
         }
@@ -127,46 +138,26 @@ fn steps<T: Scalar>(
 /// Finds the class to which one unit vector leads.
 fn step<T: Scalar>(
     alloc: Global,
-    sides: &Rows<T>,
-    forms: &Rows<T>,
+    steps: &Steps<T>,
     found: &mut Found<T>,
     point: &Row<T>,
+    values: &Row<T>,
     column: usize,
     limit: u32,
 ) -> Result<(), Work>
-    requires simplex { IsFullSimplex sides.now forms.now }
-    requires width { HasWidth (length sides.now) point.now }
-    requires part { IsPart (length sides.now) (paired forms.now sides.now) limit found.old }
-    ensures { MatchResult result (λ _. IsPart (length sides.now) (paired forms.now sides.now) limit found.new × Extends found.old found.new × Reaches (paired forms.now sides.now) found.new (plus point.now (unit_at (length sides.now) column))) (IsRefusal limit sides.now) }
+    requires prepared { IsPrepared steps.now.sides.now steps.now.forms.now steps.now.divisors steps.now.units steps.now.values }
+    requires width { HasWidth (length steps.now.sides.now) point.now }
+    requires reduced { HasReducedValues (paired steps.now.forms.now steps.now.sides.now) point.now }
+    requires values { values.now ≡ values_at steps.now.forms.now point.now }
+    requires column { column < length steps.now.sides.now }
+    requires part { IsPart (length steps.now.sides.now) (paired steps.now.forms.now steps.now.sides.now) limit found.old }
+    ensures { MatchResult result (λ _. IsPart (length steps.now.sides.now) (paired steps.now.forms.now steps.now.sides.now) limit found.new × Extends found.old found.new × Reaches (paired steps.now.forms.now steps.now.sides.now) found.new (plus point.now (unit_at (length steps.now.sides.now) column))) (IsRefusal (unsigned_abs T.HALF) limit steps.now.sides.now steps.now.forms.now) }
 {
-    let next = match neighbour(alloc, sides, forms, point, column) {
+    let next = match neighbour(alloc, steps, point, values, column) {
         Ok(next) => next,
         Err(refusal) => return Err(work_of(refusal)),
     };
     note(alloc, found, &next, limit)
-}
-
-/// The point in the class of a vector and a unit vector.
-fn neighbour<T: Scalar>(
-    alloc: Global,
-    sides: &Rows<T>,
-    forms: &Rows<T>,
-    point: &Row<T>,
-    column: usize,
-) -> Result<Row<T>, Num>
-    requires simplex { IsFullSimplex sides.now forms.now }
-    requires width { HasWidth (length sides.now) point.now }
-    ensures { IfOk result (IsRestOf (length sides.now) (paired forms.now sides.now) (plus point.now (unit_at (length sides.now) column))) }
-{
-    let unit = match unit(alloc, sides.len(), column) {
-        Ok(unit) => unit,
-        Err(refusal) => return Err(Num::from(refusal)),
-    };
-    let one = T::of_i64(1);
-    match Row::combine(alloc, one, point, one, &unit) {
-        Ok(moved) => rest(alloc, sides, forms, moved),
-        Err(refusal) => Err(refusal),
-    }
 }
 
 /// Puts a vector into the list, as long as that has no more than `limit`.
@@ -191,7 +182,7 @@ fn note<T: Scalar>(
 
 /// The refusal of one reckoning as that of the walk, which tells no stages.
 fn work_of(refusal: Num) -> Work
-    ensures { (limit : ℕ) (sides : List (List ℤ)) → IsRefusal limit sides result }
+    ensures { (bound limit : ℕ) (sides forms : List (List ℤ)) → IsCaused bound sides forms refusal → IsRefusal bound limit sides forms result }
 {
     match refusal {
         Num::Range => Work::Range { told: 0 },

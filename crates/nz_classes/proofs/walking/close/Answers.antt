@@ -7,7 +7,7 @@ pub loop-place-init : goal.loop-place-init
 loop-place-init g c = record {
   part = c.requires.part;
   extends = extends_refl c.args.found.now;
-  expanded = places_start (length c.args.sides.now) (paired c.args.forms.now c.args.sides.now) c.args.found.now;
+  expanded = places_start (length c.args.steps.now.sides.now) (paired c.args.steps.now.forms.now c.args.steps.now.sides.now) c.args.found.now;
 }
 
 pub loop-place-preserved : goal.loop-place-preserved
@@ -17,10 +17,10 @@ loop-place-preserved g c =
     record {
       part = r.0;
       extends = extends_trans c.args.found.now c.loop-place.found c.expand.new.found c.loop-place.invariant.extends r.1;
-      expanded = places_more (length c.args.sides.now) (paired c.args.forms.now c.args.sides.now) c.loop-place.place c.loop-place.found c.expand.new.found l r.1 c.loop-place.invariant.expanded r.2;
+      expanded = places_more (length c.args.steps.now.sides.now) (paired c.args.steps.now.forms.now c.args.steps.now.sides.now) c.loop-place.place c.loop-place.found c.expand.new.found l r.1 c.loop-place.invariant.expanded r.2;
     }
 
 pub returns : goal.returns
 returns g c =
     let i = c.loop-place.invariant in
-    (i.part, i.extends, places_end (length c.args.sides.now) (paired c.args.forms.now c.args.sides.now) c.loop-place.place c.loop-place.found (omega (arith, c.len.ensures, c.loop-place-test.false)) i.expanded)
+    (i.part, i.extends, places_end (length c.args.steps.now.sides.now) (paired c.args.steps.now.forms.now c.args.steps.now.sides.now) c.loop-place.place c.loop-place.found (omega (arith, c.len.ensures, c.loop-place-test.false)) i.expanded)

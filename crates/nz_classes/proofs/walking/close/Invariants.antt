@@ -6,9 +6,9 @@ use Rattle.nz_classes.proofs.walking.close.Given as goal
 
 abbrev pub invariant-loop-place : goal.invariant-loop-place
 invariant-loop-place g l = record {
-  part : IsPart (length l.sides) (paired l.forms l.sides) l.limit l.found;
+  part : IsPart (length l.steps.sides.now) (paired l.steps.forms.now l.steps.sides.now) l.limit l.found;
   extends : Extends l.initial.found l.found;
-  expanded : AreExpanded (length l.sides) (paired l.forms l.sides) l.place l.found;
+  expanded : AreExpanded (length l.steps.sides.now) (paired l.steps.forms.now l.steps.sides.now) l.place l.found;
 }
 
 abbrev pub decreases-loop-place : goal.decreases-loop-place

@@ -1,4 +1,5 @@
 use Rattle.std.proofs.Common.{length}
+use Rattle.std.specs.Prelude.{unsigned_abs}
 use Rattle.nz_spec.specs.Vectors.{plus}
 use Rattle.nz_linear.specs.Echelon.{unit_at}
 use Rattle.nz_classes.specs.Walks.{paired}
@@ -7,12 +8,14 @@ use Rattle.nz_classes.proofs.WalkLemmas.{put_part, put_extends, reaches_put, ful
 use Rattle.nz_classes.proofs.walking.step.Goals as goal
 
 pub returns-in-Err : goal.returns-in-Err
-returns-in-Err g c = c.work_of.ensures c.args.limit c.args.sides.now
+returns-in-Err g c = c.work_of.ensures (unsigned_abs g.T.Scalar.HALF) c.args.limit c.args.steps.now.sides.now c.args.steps.now.forms.now c.in-Err.ensures
 
 pub returns : goal.returns
 returns g c =
-    let w = length c.args.sides.now in
-    let ps = paired c.args.forms.now c.args.sides.now in
+    let sides = c.args.steps.now.sides.now in
+    let forms = c.args.steps.now.forms.now in
+    let w = length sides in
+    let ps = paired forms sides in
     let old = c.args.found.now in
     let new = c.note.new.found in
     let x = c.in-Ok.next in
@@ -23,5 +26,5 @@ returns g c =
       put_extends old x new h.0,
       reaches_put w ps old x new (plus c.args.point.now (unit_at w c.args.column)) h.0 r,
     ))
-    (λ e h. full_refusal c.args.sides.now c.args.forms.now c.requires.simplex c.args.limit old x new c.requires.part r.width r.reduced e h)
+    (λ e h. full_refusal sides forms c.requires.prepared.simplex (unsigned_abs g.T.Scalar.HALF) c.args.limit old x new c.requires.part r.width r.reduced e h)
     c.note.result c.note.ensures

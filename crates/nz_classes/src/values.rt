@@ -1,0 +1,104 @@
+// The values of forms at vectors, and the floors of quotients.
+ghost use Rattle.std.specs.Prelude.{◌≡◌, pos, ◌<ℤ◌, ◌<◌, [], ◌∷◌, length, map, IfOk, MatchResult};
+ghost use Rattle.std.specs.List.{AllByRecursion as Each};
+ghost use Rattle.nz_spec.specs.Vectors.{values_at, HasWidth};
+ghost use Rattle.nz_linear.specs.DualPairs.{divisor};
+ghost use Rattle.nz_classes.specs.Steps.{AreQuotients, HasValueOutside};
+ghost use Rattle.nz_classes.specs.Walks.{paired};
+
+use nz_vec::{NoMemory, Num, Row, Rows, Scalar};
+use std::alloc::Global;
+
+/// The values of the forms at a vector.
+pub(crate) fn values_of<T: Scalar>(
+    alloc: Global,
+    forms: &Rows<T>,
+    vector: &Row<T>,
+) -> Result<Row<T>, Num>
+    requires { Each (HasWidth (length vector.now)) forms.now }
+    ensures { MatchResult result (λ v. v ≡ values_at forms.now vector.now) (λ e. e ≡ Num.Range → HasValueOutside T.fits forms.now (vector.now ∷ [])) }
+{
+    let mut values = match Vec::with_capacity(alloc, forms.len()) {
+        Ok(values) => values,
+        Err(_) => return Err(Num::NoMemory),
+    };
+    for place in 0..forms.len() {
+        match forms.at(place).dot(vector) {
+            Some(value) => values.push_reserved(value),
+            None => return Err(Num::Range),
+        }
+    }
+    Ok(Row::from_vec(values))
+}
+
+/// The values of the forms at each of some vectors.
+pub(crate) fn values_of_all<T: Scalar>(
+    alloc: Global,
+    forms: &Rows<T>,
+    vectors: &Rows<T>,
+) -> Result<Rows<T>, Num>
+    requires vectors_wide { Each (HasWidth (length forms.now)) vectors.now }
+    requires forms_wide { Each (HasWidth (length forms.now)) forms.now }
+    ensures { MatchResult result (λ v. v ≡ map (values_at forms.now) vectors.now) (λ e. e ≡ Num.Range → HasValueOutside T.fits forms.now vectors.now) }
+{
+    let mut all = Rows::new(alloc);
+    for place in 0..vectors.len() {
+        let values = match values_of(alloc, forms, vectors.at(place)) {
+            Ok(values) => values,
+            Err(refusal) => return Err(refusal),
+        };
+        match all.push(values) {
+            Ok(()) => {}
+            Err(refusal) => return Err(Num::from(refusal)),
+        }
+    }
+    Ok(all)
+}
+
+/// The value of each form at its own side.
+pub(crate) fn divisors_of<T: Scalar>(
+    alloc: Global,
+    sides: &Rows<T>,
+    forms: &Rows<T>,
+) -> Result<Row<T>, Num>
+    requires one_each { length forms.now ≡ length sides.now }
+    requires sides_wide { Each (HasWidth (length sides.now)) sides.now }
+    requires forms_wide { Each (HasWidth (length sides.now)) forms.now }
+    ensures { MatchResult result (λ d. d ≡ map divisor (paired forms.now sides.now)) (λ e. e ≡ Num.Range → HasValueOutside T.fits forms.now sides.now) }
+{
+    let mut divisors = match Vec::with_capacity(alloc, sides.len()) {
+        Ok(divisors) => divisors,
+        Err(_) => return Err(Num::NoMemory),
+    };
+    for place in 0..sides.len() {
+        match forms.at(place).dot(sides.at(place)) {
+            Some(divisor) => divisors.push_reserved(divisor),
+            None => return Err(Num::Range),
+        }
+    }
+    Ok(Row::from_vec(divisors))
+}
+
+/// The floors of the entries of the forms at a column by the divisors.
+pub(crate) fn quotients_of<T: Scalar>(
+    alloc: Global,
+    forms: &Rows<T>,
+    divisors: &Row<T>,
+    column: usize,
+) -> Result<Row<T>, NoMemory>
+    requires one_each { length divisors.now ≡ length forms.now }
+    requires wide { Each (HasWidth (length forms.now)) forms.now }
+    requires column { column < length forms.now }
+    requires positive { Each (λ d. pos 0 <ℤ d) divisors.now }
+    ensures { IfOk result (AreQuotients forms.now divisors.now column) }
+{
+    let mut floors = match Vec::with_capacity(alloc, forms.len()) {
+        Ok(floors) => floors,
+        Err(_) => return Err(NoMemory),
+    };
+    for place in 0..forms.len() {
+        let value = forms.at(place).at(column);
+        floors.push_reserved(value.floor_div(divisors.at(place)).unwrap());
+    }
+    Ok(Row::from_vec(floors))
+}
