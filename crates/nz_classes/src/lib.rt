@@ -14,3 +14,6 @@ mod values;
 mod walking;
 
 pub use walking::walk;
+
+#[cfg(test)]
+mod tests;
