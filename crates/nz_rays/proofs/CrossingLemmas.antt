@@ -1,14 +1,14 @@
 -- The crossings of rays, found pair by pair.
-use Rattle.std.proofs.Common.{◌≡◌, ◌≢◌, ◌⊎◌, inl, inr, ⊎_elim, ℕ, ◌+◌, ◌<◌, ◌≤◌, List, [], ◌∷◌, ◌++◌, length, get_or, pos, ◌<ℤ◌, refl, sym, ap, ◌∙◌, subst, arith}
+use Rattle.std.proofs.Common.{◌≡◌, ◌⊎◌, inl, inr, ⊎_elim, ℕ, ◌+◌, ◌<◌, ◌≤◌, List, [], ◌∷◌, ◌++◌, length, get_or, pos, ◌<ℤ◌, sym, ◌∙◌, subst, arith}
 use Rattle.std.specs.Prelude.{Option, Some, None, MatchOption}
-use Rattle.std.specs.List.{AllByRecursion as Each, Contains}
+use Rattle.std.specs.List.{Contains}
 use Rattle.std.proofs.lemmas.List.Elements.{Contains-append_left, Contains-push}
 use Rattle.nz_spec.specs.Vectors.{Vector}
-use Rattle.nz_spec.specs.Order.{Pairwise, IsListOf}
+use Rattle.nz_spec.specs.Order.{IsListOf}
 use Rattle.nz_linear.proofs.Lists.{each_map, each_append}
 use Rattle.nz_pointed.proofs.ListLemmas.{pairwise_push}
 use Rattle.nz_rays.specs.declared.crossings.Crossing.{Crossing}
-use Rattle.nz_rays.specs.Crossings.{AreCommon, HasNoThird, IsCovered, AreOnBothSides, IsCrossing, IsPairBefore, IsBefore, HasCrossing, AreCrossingsBefore}
+use Rattle.nz_rays.specs.Crossings.{AreCommon, HasNoThird, IsCovered, AreOnBothSides, IsCrossing, IsPairBefore, IsBefore, AreCrossingsBefore}
 
 -- ---- pairs in order
 next_pair : (a b c d : ℕ) → IsPairBefore a b c d → IsPairBefore a b c (d + 1)

@@ -1,5 +1,5 @@
 -- The rays after one more row are again all primitive extreme rays, each once, with exact zero sets.
-use Rattle.std.proofs.Common.{◌≡◌, ◌≢◌, ◌⊎◌, inl, inr, ⊎_elim, ℕ, zero, suc, ◌+◌, ◌<◌, ◌≤◌, List, [], ◌∷◌, ◌++◌, length, map, get_or, ℤ, pos, neg_ℤ, ◌*ℤ◌, ◌+ℤ◌, ◌≤ℤ◌, ◌<ℤ◌, refl, sym, ap, ap₂, ◌∙◌, subst, arith}
+use Rattle.std.proofs.Common.{◌≡◌, ◌≢◌, ◌⊎◌, inl, inr, ⊎_elim, ℕ, zero, suc, ◌<◌, List, [], ◌∷◌, ◌++◌, length, map, get_or, pos, neg_ℤ, ◌*ℤ◌, ◌≤ℤ◌, ◌<ℤ◌, refl, sym, ap, ◌∙◌, subst, arith}
 use Rattle.std.specs.List.{AllByRecursion as Each, AllZip, Contains}
 use Rattle.std.proofs.Math.IntN.{*ℤ-zero}
 use Rattle.std.proofs.lemmas.Int.{ints}
@@ -10,30 +10,29 @@ use Rattle.nz_spec.specs.Order.{Pairwise, IsListOf}
 use Rattle.nz_spec.specs.Covers.{vectors_at}
 use Rattle.nz_spec.proofs.VectorLaws.{dot-IsZero, IsZero-zero_vector}
 use Rattle.nz_spec.proofs.ListLaws.{Each-contains, Each-from_contains}
-use Rattle.nz_vec.specs.Primitives.{IsPrimitivePart}
 use Rattle.nz_linear.specs.Cones.{Satisfies, meet}
 use Rattle.nz_linear.specs.Coordinates.{in_coordinates}
 use Rattle.nz_linear.specs.Division.{IsPrimitiveOf}
 use Rattle.nz_linear.specs.Extreme.{IsPointed}
 use Rattle.nz_linear.specs.DoubleDescription.{AreAdjacent}
-use Rattle.nz_linear.specs.RayStep.{AreExtremeRays, IsFromPair, RayPair, IsAdjacentPair, IsKept, HasSum, HasOther, IsRayStep}
+use Rattle.nz_linear.specs.RayStep.{IsFromPair, RayPair, IsAdjacentPair, IsKept, HasSum, HasOther, IsRayStep}
 use Rattle.nz_linear.proofs.Ring.{cross_gone, sums}
 use Rattle.nz_linear.proofs.Signs.{mul_is_zero}
 use Rattle.nz_linear.proofs.Lists.{each_map, each_map2, each_append, each_left, each_of_map, zip_append, zip_change, zip_first, zip_to_right}
 use Rattle.nz_linear.proofs.DoubleDescription.{meet_at, both_vanish}
 use Rattle.nz_linear.proofs.RaySteps.{primitive_value, ray_step}
-use Rattle.nz_linear.proofs.RayStart.{pointed_more, rays_of_members, HaveSameMembers}
+use Rattle.nz_linear.proofs.RayStart.{pointed_more, rays_of_members}
 use Rattle.nz_linear.proofs.Members.{members_push}
 use Rattle.nz_linear.proofs.Distinct.{no_ray_twice}
 use Rattle.nz_pointed.proofs.ListLemmas.{each_at}
 use Rattle.nz_rays.specs.declared.crossings.Crossing.{Crossing}
-use Rattle.nz_rays.specs.Descriptions.{RowsAndRays, IsDescription, IsDouble, VanishesAt, AreZeros}
-use Rattle.nz_rays.specs.Crossings.{AreCommon, IsThird, HasNoThird, IsCovered, AreOnBothSides, IsCrossing, IsBefore, HasCrossing, AreCrossingsBefore}
-use Rattle.nz_rays.specs.Cuts.{IsKeptAt, crossing_sum, IsSum, AreKeptZeros, AreSumZeros, Appends, AreCutZeros, IsCutByValues}
+use Rattle.nz_rays.specs.Descriptions.{IsDescription, IsDouble, VanishesAt, AreZeros}
+use Rattle.nz_rays.specs.Crossings.{AreCommon, HasNoThird, IsCovered, AreOnBothSides, IsCrossing, IsBefore, HasCrossing}
+use Rattle.nz_rays.specs.Cuts.{IsKeptAt, crossing_sum, IsSum, AreKeptZeros, AreSumZeros, IsCutByValues}
 use Rattle.nz_rays.proofs.PlaceLemmas.{listed_push, listed_same, below_next, zip_at, zip_length, Beside, zip_beside}
 
 -- ---- lists
-each_from_at : {A : Type 0} (P : A → Type 0) (d : A) (xs : List A) → ((i : ℕ) → i < length xs → P (get_or xs i d)) → Each P xs
+pub each_from_at : {A : Type 0} (P : A → Type 0) (d : A) (xs : List A) → ((i : ℕ) → i < length xs → P (get_or xs i d)) → Each P xs
 each_from_at P d [] f = tt
 each_from_at P d (x ∷ xs) f = (f 0 (omega arith), each_from_at P d xs (λ i l. f (suc i) (omega arith)))
 
@@ -44,13 +43,13 @@ differ_at d (x ∷ xs) p zero (suc j) li lj n = each_at (λ y. x ≢ y) d xs j p
 differ_at d (x ∷ xs) p (suc i) zero li lj n = λ e. each_at (λ y. x ≢ y) d xs i p.0 (omega arith) (sym e)
 differ_at d (x ∷ xs) p (suc i) (suc j) li lj n = differ_at d xs p.1 i j (omega arith) (omega arith) (λ e. n (ap suc e))
 
-same_or_not : (i j : ℕ) → (i ≡ j) ⊎ (i ≢ j)
+pub same_or_not : (i j : ℕ) → (i ≡ j) ⊎ (i ≢ j)
 same_or_not zero zero = inl refl
 same_or_not zero (suc j) = inr (λ e. let f : ⊥ = omega arith in f)
 same_or_not (suc i) zero = inr (λ e. let f : ⊥ = omega arith in f)
 same_or_not (suc i) (suc j) = ⊎_elim (λ e. inl (ap suc e)) (λ n. inr (λ e. n (omega arith))) (same_or_not i j)
 
-contains_map : {A B : Type 0} (f : A → B) (xs : List A) (x : A) → Contains xs x → Contains (map f xs) (f x)
+pub contains_map : {A B : Type 0} (f : A → B) (xs : List A) (x : A) → Contains xs x → Contains (map f xs) (f x)
 contains_map f [] x c = absurd (let l = c.1 in let e : ⊥ = omega arith in e)
 contains_map f (y ∷ xs) x (zero, l, e) = (0, omega arith, ap f e)
 contains_map f (y ∷ xs) x (suc k, l, e) = let c = contains_map f xs x (k, omega arith, e) in (suc c.0, let h = c.1 in omega arith, c.2)
@@ -86,19 +85,19 @@ meet_nonzero w rows h p n pt lp ln sp sn up down z =
     omega (arith, sums)
 
 -- what is known of the two rays of a crossing
-record Crossed (w : ℕ) (h : Vector) (rows rays : List Vector) (c : Crossing) : Type 0 where
-  above_in : c.above < length rays
-  below_in : c.below < length rays
-  width_p : length (get_or rays c.above []) ≡ w
-  width_n : length (get_or rays c.below []) ≡ w
-  sound_p : Satisfies rows (get_or rays c.above [])
-  sound_n : Satisfies rows (get_or rays c.below [])
-  over : pos 0 <ℤ dot h (get_or rays c.above [])
-  under : dot h (get_or rays c.below []) <ℤ pos 0
-  nonzero : IsNonzero (meet h (get_or rays c.above []) (get_or rays c.below []))
-  same_sum : crossing_sum (in_coordinates rays h) rays c ≡ meet h (get_or rays c.above []) (get_or rays c.below [])
+pub record Crossed (w : ℕ) (h : Vector) (rows rays : List Vector) (c : Crossing) : Type 0 where
+  pub above_in : c.above < length rays
+  pub below_in : c.below < length rays
+  pub width_p : length (get_or rays c.above []) ≡ w
+  pub width_n : length (get_or rays c.below []) ≡ w
+  pub sound_p : Satisfies rows (get_or rays c.above [])
+  pub sound_n : Satisfies rows (get_or rays c.below [])
+  pub over : pos 0 <ℤ dot h (get_or rays c.above [])
+  pub under : dot h (get_or rays c.below []) <ℤ pos 0
+  pub nonzero : IsNonzero (meet h (get_or rays c.above []) (get_or rays c.below []))
+  pub same_sum : crossing_sum (in_coordinates rays h) rays c ≡ meet h (get_or rays c.above []) (get_or rays c.below [])
 
-crossed : (w : ℕ) (h : Vector) (rows rays : List Vector) (c : Crossing) → IsDescription (record { width = w; rows = rows; rays = rays }) → AreOnBothSides (in_coordinates rays h) c.above c.below → Crossed w h rows rays c
+pub crossed : (w : ℕ) (h : Vector) (rows rays : List Vector) (c : Crossing) → IsDescription (record { width = w; rows = rows; rays = rays }) → AreOnBothSides (in_coordinates rays h) c.above c.below → Crossed w h rows rays c
 crossed w h rows rays c d s =
     let d2 = d.extreme.description in
     let lv = values_length h rays in
@@ -137,7 +136,7 @@ sum_primitive w h rows rays c x k s = record {
 }
 
 -- ---- adjacency by places
-at_place : (rows : List Vector) (x : Vector) (zs : List ℕ) (k : ℕ) → AreZeros rows x zs → Contains zs k → VanishesAt rows x k
+pub at_place : (rows : List Vector) (x : Vector) (zs : List ℕ) (k : ℕ) → AreZeros rows x zs → Contains zs k → VanishesAt rows x k
 at_place rows x zs k z c = Each-contains (VanishesAt rows x) zs k z.only c
 
 -- where a third ray has all common places, rows that are 0 at both rays are 0 at it
@@ -152,7 +151,7 @@ vanish_covered : (rows : List Vector) (p n r : Vector) (zp zn zr common : List �
 vanish_covered rows p n r zp zn zr common ep en er l v = each_map (λ k. Contains zp k × Contains zn k) (Contains zr) common
     (λ k b. let zero_p = at_place rows p zp k ep b.0 in let zero_n = at_place rows n zn k en b.1 in er.each k (record { within = zero_p.within; zero = each_at (λ a. dot a p ≡ pos 0 → dot a n ≡ pos 0 → dot a r ≡ pos 0) [] rows k v zero_p.within zero_p.zero zero_n.zero })) l.only
 
-adjacent_of : (rows rays : List Vector) (zeros : List (List ℕ)) (c : Crossing) → AllZip (AreZeros rows) rays zeros → c.above < length rays → c.below < length rays → AreCommon zeros c.above c.below c.zeros → HasNoThird zeros c.zeros c.above c.below
+pub adjacent_of : (rows rays : List Vector) (zeros : List (List ℕ)) (c : Crossing) → AllZip (AreZeros rows) rays zeros → c.above < length rays → c.below < length rays → AreCommon zeros c.above c.below c.zeros → HasNoThird zeros c.zeros c.above c.below
     → AreAdjacent rows rays (get_or rays c.above []) (get_or rays c.below [])
 adjacent_of rows rays zeros c z ia ib m t = each_from_at (λ r. Each (λ a. dot a (get_or rays c.above []) ≡ pos 0 → dot a (get_or rays c.below []) ≡ pos 0 → dot a r ≡ pos 0) rows → (r ≡ get_or rays c.above []) ⊎ (r ≡ get_or rays c.below [])) [] rays
     (λ i l v. ⊎_elim (λ e. inl (ap (λ k. get_or rays k []) e))

@@ -3,3 +3,4 @@ pub mod CrossingLemmas
 pub mod StartLemmas
 pub mod CutLemmas
 pub mod RangeLemmas
+pub mod FewLemmas

@@ -1,12 +1,12 @@
 -- Lists of places in order, read at places and built one by one; and two lists place by place.
-use Rattle.std.proofs.Common.{◌≡◌, ◌≢◌, ◌⊎◌, inl, inr, ⊎_elim, ℕ, zero, suc, ◌+◌, ◌<◌, ◌≤◌, List, [], ◌∷◌, ◌++◌, length, map, get_or, take, ℤ, pos, ◌≤ℤ◌, ◌<ℤ◌, Bool, false, refl, sym, ap, ◌∙◌, subst, arith}
+use Rattle.std.proofs.Common.{◌≡◌, ◌≢◌, ◌⊎◌, inl, inr, ⊎_elim, ℕ, zero, suc, ◌+◌, ◌<◌, ◌≤◌, List, [], ◌∷◌, ◌++◌, length, get_or, take, ℤ, pos, ◌≤ℤ◌, ◌<ℤ◌, false, refl, sym, ap, ◌∙◌, subst, arith}
 use Rattle.std.specs.List.{AllByRecursion as Each, AllZip, Contains}
 use Rattle.std.proofs.lemmas.List.{append-nil, append_assoc, take_more, take_all, get_or_default}
 use Rattle.std.proofs.lemmas.List.Elements.{Contains-append_left, Contains-push, Contains-push_cases}
 use Rattle.std.specs.Prelude.{IsTrue}
 use Rattle.std.proofs.lemmas.Int.{by_lt_z}
 use Rattle.nz_spec.specs.Order.{Pairwise, IsListOf}
-use Rattle.nz_spec.proofs.ListLaws.{Each-contains, Each-weaker, different_within}
+use Rattle.nz_spec.proofs.ListLaws.{Each-contains, different_within}
 use Rattle.nz_linear.proofs.Lists.{each_map, each_append}
 use Rattle.nz_pointed.proofs.ListLemmas.{pairwise_push, zip_more, each_at}
 use Rattle.nz_rays.specs.Cuts.{Appends, IsKeptAt}

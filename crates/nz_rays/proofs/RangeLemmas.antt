@@ -1,5 +1,5 @@
 -- Where all rays and the row at them are small, no number of a step leaves the type.
-use Rattle.std.proofs.Common.{◌≡◌, ◌⊎◌, inl, inr, ⊎_elim, ℕ, ◌+◌, ◌<◌, ◌≤◌, List, [], ◌∷◌, length, get_or, ℤ, pos, negsuc, neg_ℤ, ◌+ℤ◌, ◌-ℤ◌, ◌*ℤ◌, ◌≤ℤ◌, ◌<ℤ◌, refl, sym, ap, ◌∙◌, subst, arith}
+use Rattle.std.proofs.Common.{◌≡◌, ◌⊎◌, inl, inr, ⊎_elim, ℕ, ◌+◌, ◌<◌, List, [], ◌∷◌, length, get_or, ℤ, pos, negsuc, neg_ℤ, ◌+ℤ◌, ◌-ℤ◌, ◌*ℤ◌, ◌≤ℤ◌, sym, ap, ◌∙◌, subst, arith}
 use Rattle.std.specs.Prelude.{unsigned_abs, Result, Ok, Err, MatchResult}
 use Rattle.std.specs.List.{AllByRecursion as Each, Contains}
 use Rattle.std.proofs.lemmas.Int.{ints, by_lt_z}
@@ -7,7 +7,6 @@ use Rattle.std.proofs.lemmas.List.Elements.{Contains-get_or}
 use Rattle.nz_spec.specs.Vectors.{Vector, dot, plus, scaled}
 use Rattle.nz_spec.proofs.ListLaws.{contains_here, contains_there}
 use Rattle.nz_linear.specs.Coordinates.{in_coordinates}
-use Rattle.nz_linear.specs.Division.{IsGcdOf}
 use Rattle.nz_linear.proofs.Ring.{mul-one}
 use Rattle.nz_linear.proofs.Lists.{each_map}
 use Rattle.nz_linear.proofs.Division.{gcd_of, common_divides_gcd}

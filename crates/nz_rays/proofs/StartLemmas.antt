@@ -1,13 +1,13 @@
 -- The double description of a simplex, and what each description lists.
-use Rattle.std.proofs.Common.{◌≡◌, ◌≢◌, ◌⊎◌, inl, inr, ⊎_elim, ℕ, zero, suc, ◌+◌, ◌<◌, ◌≤◌, List, [], ◌∷◌, ◌++◌, length, map, get_or, pos, ◌<ℤ◌, refl, sym, ap, ◌∙◌, subst, arith}
-use Rattle.std.specs.List.{AllByRecursion as Each, AllZip, Contains}
+use Rattle.std.proofs.Common.{◌≡◌, ◌≢◌, ⊎_elim, ℕ, zero, suc, ◌+◌, ◌<◌, List, [], ◌∷◌, ◌++◌, length, map, get_or, pos, ◌<ℤ◌, refl, sym, ap, ◌∙◌, subst, arith}
+use Rattle.std.specs.List.{AllByRecursion as Each}
 use Rattle.std.proofs.lemmas.Int.{ints}
 use Rattle.std.proofs.lemmas.List.{get_or_append_left, get_or_push, length_push, length-map}
 use Rattle.nz_spec.specs.Vectors.{Vector, dot, IsPrimitive}
 use Rattle.nz_spec.specs.Order.{Pairwise, IsListOf}
 use Rattle.nz_spec.specs.Covers.{vectors_at}
 use Rattle.nz_spec.proofs.ListLaws.{Each-from_contains}
-use Rattle.nz_linear.specs.DualPairs.{Pair, pair_of, divisor, IsApart, IsDual, IsDualPair, OnlyZero}
+use Rattle.nz_linear.specs.DualPairs.{Pair, pair_of, IsApart, IsDual}
 use Rattle.nz_linear.specs.Extreme.{IsPointed}
 use Rattle.nz_linear.specs.RayStep.{AreExtremeRays}
 use Rattle.nz_linear.proofs.Lists.{each_map, each_of_map, map_each}
@@ -15,7 +15,6 @@ use Rattle.nz_linear.proofs.Dependence.{complete_length}
 use Rattle.nz_linear.proofs.RayStart.{dual_rays, dual_pointed}
 use Rattle.nz_linear.proofs.Splitting.{listed_is_ray, ray_is_listed}
 use Rattle.nz_pointed.specs.Pointed.{paired, IsSimplexOf}
-use Rattle.nz_pointed.proofs.ListLemmas.{each_at}
 use Rattle.nz_rays.specs.Descriptions.{RowsAndRays, IsDescription, IsDouble, ListsRays, VanishesAt, AreZeros}
 use Rattle.nz_rays.proofs.PlaceLemmas.{listed_same, below_next, zip_from}
 

@@ -44,6 +44,10 @@ pub record IsCrossing (values : Vector) (zeros : List (List ℕ)) (c : Crossing)
   pub common : AreCommon zeros c.above c.below c.zeros
   pub adjacent : HasNoThird zeros c.zeros c.above c.below
 
+-- rays on both sides with fewer common places than needed are covered
+abbrev pub FewAreCovered : Vector → List (List ℕ) → ℕ → Type 0
+FewAreCovered values zeros needed = (above below : ℕ) → AreOnBothSides values above below → (common : List ℕ) → AreCommon zeros above below common → length common < needed → IsCovered zeros above below
+
 -- the pair (a, b) is before (c, d)
 abbrev pub IsPairBefore : ℕ → ℕ → ℕ → ℕ → Type 0
 IsPairBefore a b c d = (a < c) ⊎ ((a ≡ c) × (b < d))

@@ -1,9 +1,9 @@
 // The pairs of adjacent rays on both sides of a new row. Two rays are adjacent where no third one
 // is 0 at all the rows at which both are; this is read off their zero sets.
-ghost use Rattle.std.specs.Prelude.{◌≡◌, pos, ℕ, ◌+◌, ◌<◌, ◌<ℤ◌, [], length, get_or, IfOk, IsTrue, ◌↔◌, MatchBool, MatchOption};
+ghost use Rattle.std.specs.Prelude.{◌≡◌, pos, ℕ, List, ◌+◌, ◌<◌, ◌<ℤ◌, [], length, get_or, IfOk, IsTrue, ◌↔◌, MatchBool, MatchOption};
 ghost use Rattle.std.specs.List.{AllByRecursion as Each};
 ghost use Rattle.nz_spec.specs.Order.{Pairwise};
-ghost use Rattle.nz_rays.specs.Crossings.{AreCommon, IsThird, HasNoThird, HasThird, IsCovered, AreOnBothSides, IsCrossing, AreCrossingsBefore};
+ghost use Rattle.nz_rays.specs.Crossings.{AreCommon, IsThird, HasNoThird, HasThird, IsCovered, AreOnBothSides, FewAreCovered, AreCrossingsBefore};
 
 use crate::zero_sets::{common, is_within};
 use nz_vec::{NoMemory, PlaceLists, Places, Row, Scalar};
@@ -61,22 +61,28 @@ fn are_adjacent(zeros: &PlaceLists, common: &Places, above: usize, below: usize)
     true
 }
 
-// The crossing of two rays on both sides, if they are adjacent.
+// The crossing of two rays on both sides, if they are adjacent. Adjacent rays have as many common
+// places as needed, which is tried first.
 fn crossing_of(
     alloc: Global,
     zeros: &PlaceLists,
+    needed: usize,
     above: usize,
     below: usize,
 ) -> Result<Option<Crossing>, NoMemory>
     requires above { above < length zeros.now }
     requires below { below < length zeros.now }
     requires sets { Each (Pairwise ◌<◌) zeros.now }
+    requires few { (common : List ℕ) → AreCommon zeros.now above below common → length common < needed → IsCovered zeros.now above below }
     ensures { IfOk result (λ o. MatchOption o (IsCovered zeros.now above below) (λ c. (c.above ≡ above) × (c.below ≡ below) × AreCommon zeros.now above below c.zeros × HasNoThird zeros.now c.zeros above below)) }
 {
     let zeros_of_both = match common(alloc, zeros.at(above), zeros.at(below)) {
         Ok(places) => places,
         Err(refusal) => return Err(refusal),
     };
+    if zeros_of_both.len() < needed {
+        return Ok(None);
+    }
     if are_adjacent(zeros, &zeros_of_both, above, below) {
         Ok(Some(Crossing {
             above,
@@ -93,6 +99,7 @@ fn with_crossings_of<T: Scalar>(
     alloc: Global,
     values: &Row<T>,
     zeros: &PlaceLists,
+    needed: usize,
     above: usize,
     mut list: Vec<Crossing>,
 ) -> Result<Vec<Crossing>, NoMemory>
@@ -100,12 +107,13 @@ fn with_crossings_of<T: Scalar>(
     requires positive { pos 0 <ℤ get_or values.now above (pos 0) }
     requires count { length zeros.now ≡ length values.now }
     requires sets { Each (Pairwise ◌<◌) zeros.now }
+    requires few { FewAreCovered values.now zeros.now needed }
     requires before { AreCrossingsBefore values.now zeros.now above 0 list.items }
     ensures { IfOk result (λ v. AreCrossingsBefore values.now zeros.now (above + 1) 0 v.items) }
 {
     for below in 0..values.len() {
         if is_negative(values.at(below)) {
-            let found = match crossing_of(alloc, zeros, above, below) {
+            let found = match crossing_of(alloc, zeros, needed, above, below) {
                 Ok(found) => found,
                 Err(refusal) => return Err(refusal),
             };
@@ -126,15 +134,17 @@ pub(crate) fn crossings<T: Scalar>(
     alloc: Global,
     values: &Row<T>,
     zeros: &PlaceLists,
+    needed: usize,
 ) -> Result<Vec<Crossing>, NoMemory>
     requires count { length zeros.now ≡ length values.now }
     requires sets { Each (Pairwise ◌<◌) zeros.now }
+    requires few { FewAreCovered values.now zeros.now needed }
     ensures { IfOk result (λ v. AreCrossingsBefore values.now zeros.now (length values.now) 0 v.items) }
 {
     let mut list = Vec::new(alloc);
     for above in 0..values.len() {
         if is_positive(values.at(above)) {
-            list = match with_crossings_of(alloc, values, zeros, above, list) {
+            list = match with_crossings_of(alloc, values, zeros, needed, above, list) {
                 Ok(list) => list,
                 Err(refusal) => return Err(refusal),
             };

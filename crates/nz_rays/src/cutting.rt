@@ -1,11 +1,11 @@
 // The rays after a new row: those on its side, and the sums of adjacent pairs on both sides.
-ghost use Rattle.std.specs.Prelude.{◌≡◌, pos, ℕ, ◌+◌, ◌<◌, ◌≤ℤ◌, [], length, get_or, IfOk, IsTrue, MatchResult, ◌↔◌};
+ghost use Rattle.std.specs.Prelude.{◌≡◌, pos, ℕ, ◌+◌, ◌-◌, ◌<◌, ◌≤ℤ◌, [], length, get_or, IfOk, IsTrue, MatchResult, ◌↔◌};
 ghost use Rattle.std.specs.List.{AllByRecursion as Each, AllZip};
 ghost use Rattle.nz_spec.specs.Vectors.{HasWidth};
 ghost use Rattle.nz_spec.specs.Order.{Pairwise, IsListOf};
 ghost use Rattle.nz_spec.specs.Covers.{vectors_at};
 ghost use Rattle.nz_linear.specs.Coordinates.{in_coordinates};
-ghost use Rattle.nz_rays.specs.Crossings.{AreOnBothSides};
+ghost use Rattle.nz_rays.specs.Crossings.{AreOnBothSides, FewAreCovered};
 ghost use Rattle.nz_rays.specs.Cuts.{IsKeptAt, IsSum, AreKeptZeros, AreSumZeros, Appends, AreCutZeros, IsCutByValues};
 ghost use Rattle.nz_rays.specs.Measures.{HasLargeRay, IsCrossingWithin};
 
@@ -219,6 +219,7 @@ pub(crate) fn cut<T: Scalar>(
     requires widths { Each (HasWidth (length form.now)) rays.now }
     requires count { length zeros.now ≡ length rays.now }
     requires sets { Each (Pairwise ◌<◌) zeros.now }
+    requires few { FewAreCovered (in_coordinates rays.now form.now) zeros.now (length form.now - 2) }
     ensures { MatchResult result (λ c. IsCutByValues (in_coordinates rays.now form.now) last rays.now zeros.now c.rays c.zeros) (λ e. e ≡ Num.Range → HasLargeRay T.HALF form.now rays.now) }
 {
     let values = match values_at(alloc, form, rays) {
@@ -229,7 +230,8 @@ pub(crate) fn cut<T: Scalar>(
         Ok(kept) => kept,
         Err(refusal) => return Err(Num::from(refusal)),
     };
-    let crossings = match crossings(alloc, &values, zeros) {
+    let needed = form.len().saturating_sub(2);
+    let crossings = match crossings(alloc, &values, zeros, needed) {
         Ok(crossings) => crossings,
         Err(refusal) => return Err(Num::from(refusal)),
     };

@@ -1,4 +1,4 @@
-use Rattle.std.proofs.Common.{below_more, ◌<◌, arith}
+use Rattle.std.proofs.Common.{below_more, arith}
 use Rattle.nz_rays.proofs.crossings.are_adjacent.Goals as goal
 
 pub loop-place-preserved : goal.loop-place-preserved

@@ -1,4 +1,4 @@
-use Rattle.std.proofs.Common.{refl}
+use Rattle.std.proofs.Common.{refl, arith}
 use Rattle.nz_rays.proofs.CrossingLemmas.{common_of}
 use Rattle.nz_rays.proofs.crossings.crossing_of.Goals as goal
 
@@ -11,3 +11,6 @@ returns-else-are_adjacent c = record {
   is_common = common_of c.args.zeros.now c.args.above c.args.below c.at.result.now c.at-2.result.now c.in-Ok.places c.at.ensures c.at-2.ensures c.in-Ok.ensures;
   other = c.if-are_adjacent.ensures;
 }
+
+pub returns-then-len-needed : goal.returns-then-len-needed
+returns-then-len-needed c = c.requires.few c.in-Ok.places (common_of c.args.zeros.now c.args.above c.args.below c.at.result.now c.at-2.result.now c.in-Ok.places c.at.ensures c.at-2.ensures c.in-Ok.ensures) (omega (arith, c.if-len-needed.true, c.len.ensures))

@@ -1,6 +1,4 @@
-use Rattle.std.proofs.Common.{◌<◌, ◌<ℤ◌, ◌∙◌, pos, length, refl, ap, subst, arith, List}
-use Rattle.nz_rays.specs.declared.crossings.Crossing.{Crossing}
-use Rattle.nz_rays.specs.Crossings.{AreCrossingsBefore}
+use Rattle.std.proofs.Common.{◌<◌, ◌<ℤ◌, pos, length, refl, subst, arith}
 use Rattle.nz_rays.proofs.PlaceLemmas.{not_below}
 use Rattle.nz_rays.proofs.CrossingLemmas.{crossings_skip, found_push, found_none, crossings_next}
 use Rattle.nz_rays.proofs.crossings.with_crossings_of.Goals as goal

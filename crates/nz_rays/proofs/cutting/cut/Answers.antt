@@ -1,4 +1,4 @@
-use Rattle.std.proofs.Common.{List, sym, subst}
+use Rattle.std.proofs.Common.{sym, subst}
 use Rattle.std.specs.List.{AllByRecursion as Each}
 use Rattle.nz_linear.proofs.Lists.{each_map}
 use Rattle.nz_rays.specs.declared.crossings.Crossing.{Crossing}

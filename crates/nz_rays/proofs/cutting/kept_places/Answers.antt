@@ -1,4 +1,4 @@
-use Rattle.std.proofs.Common.{◌≤ℤ◌, ◌<ℤ◌, pos, get_or, ℕ, ◌∙◌, refl, sym, arith}
+use Rattle.std.proofs.Common.{◌≤ℤ◌, pos, get_or, ℕ, ◌∙◌, refl, arith}
 use Rattle.std.proofs.lemmas.Int.{ints}
 use Rattle.nz_rays.proofs.PlaceLemmas.{range_push, range_skip, kept_of, not_negative}
 use Rattle.nz_rays.proofs.cutting.kept_places.Goals as goal

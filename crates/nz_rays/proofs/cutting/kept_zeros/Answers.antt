@@ -1,4 +1,4 @@
-use Rattle.std.proofs.Common.{◌<◌, ◌∙◌, length, arith}
+use Rattle.std.proofs.Common.{◌<◌, length, arith}
 use Rattle.nz_pointed.proofs.ListLemmas.{zip_more}
 use Rattle.nz_rays.specs.Cuts.{AreKeptZeros}
 use Rattle.nz_rays.proofs.PlaceLemmas.{read_at}

@@ -1,10 +1,10 @@
-use Rattle.std.proofs.Common.{◌≡◌, get_or, pos, neg_ℤ, ℤ, List, refl, ap, ◌∙◌, sym, subst}
+use Rattle.std.proofs.Common.{◌≡◌, get_or, pos, neg_ℤ, ℤ, subst}
 use Rattle.nz_spec.specs.Vectors.{Vector}
 use Rattle.nz_scalar.specs.Division.{HasGcd}
 use Rattle.nz_vec.specs.declared.answers.Num.{Num}
 use Rattle.nz_vec.specs.declared.answers.Num.TheVariants.{Range}
 use Rattle.nz_vec.specs.Primitives.{IsPrimitivePart}
-use Rattle.nz_rays.specs.Cuts.{crossing_sum, IsSum}
+use Rattle.nz_rays.specs.Cuts.{IsSum}
 use Rattle.nz_rays.specs.Measures.{IsCrossingWithin}
 use Rattle.nz_rays.proofs.RangeLemmas.{no_combination, no_divisor, sum_is, match_map, opposite_is}
 use Rattle.nz_rays.proofs.cutting.sum_of.Goals as goal

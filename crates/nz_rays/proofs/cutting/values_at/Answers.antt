@@ -1,4 +1,4 @@
-use Rattle.std.proofs.Common.{◌<◌, length, arith}
+use Rattle.std.proofs.Common.{arith}
 use Rattle.nz_rays.proofs.RangeLemmas.{large_by_value}
 use Rattle.nz_rays.proofs.cutting.values_at.Goals as goal
 

@@ -1,4 +1,4 @@
-use Rattle.std.proofs.Common.{◌≢◌, ◌<◌, ℕ, ◌∙◌, arith}
+use Rattle.std.proofs.Common.{◌≢◌, ℕ, ◌∙◌, arith}
 use Rattle.nz_rays.proofs.PlaceLemmas.{range_push, range_skip, range_all}
 use Rattle.nz_rays.proofs.zero_sets.all_but.Goals as goal
 use Rattle.nz_rays.proofs.zero_sets.all_but.Goals.{then-other-place+in-Ok, else-other-place}

@@ -1,4 +1,4 @@
-use Rattle.std.proofs.Common.{◌<◌, ◌≤◌, ◌+◌, ◌-◌, ◌/◌, get_or, ◌∙◌, subst, sym, arith}
+use Rattle.std.proofs.Common.{arith}
 use Rattle.nz_rays.proofs.PlaceLemmas.{sought_right, sought_left, sought_none}
 use Rattle.nz_rays.proofs.zero_sets.has.Goals as goal
 

@@ -1,4 +1,4 @@
-use Rattle.std.proofs.Common.{◌<◌, arith}
+use Rattle.std.proofs.Common.{arith}
 use Rattle.nz_rays.proofs.PlaceLemmas.{too_long}
 use Rattle.nz_rays.proofs.zero_sets.is_within.Goals as goal
 

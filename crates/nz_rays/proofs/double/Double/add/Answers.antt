@@ -1,10 +1,11 @@
-use Rattle.std.proofs.Common.{◌<◌, ◌∙◌, sym, ap}
+use Rattle.std.proofs.Common.{◌<◌, ◌-◌, ◌∙◌, sym, ap}
 use Rattle.nz_spec.specs.Order.{Pairwise}
 use Rattle.nz_linear.proofs.Lists.{zip_to_right}
 use Rattle.nz_rays.specs.Descriptions.{RowsAndRays, AreZeros}
 use Rattle.nz_rays.proofs.PlaceLemmas.{zip_length}
 use Rattle.nz_rays.proofs.StartLemmas.{lists_rays}
 use Rattle.nz_rays.proofs.CutLemmas.{add_double}
+use Rattle.nz_rays.proofs.FewLemmas.{few_covered}
 use Rattle.nz_rays.proofs.double.Double.add.Goals as goal
 
 pub cut-requires-clause-count : goal.cut-requires-clause-count
@@ -22,3 +23,8 @@ pub returns-in-Ok-push-clause-rays : goal.returns-in-Ok-push-clause-rays
 returns-in-Ok-push-clause-rays g c = lists_rays _
     (add_double c.self.inside.width c.len.result c.args.row.now c.in-Ok-try_copy.copy c.self.inside.rows c.push.new.self c.self.inside.rays c.in-Ok.cut.rays c.self.inside.zeros c.in-Ok.cut.zeros
     (c.requires ∙ sym (ap (λ (d : RowsAndRays). d.width) c.self.view_is)) c.len.ensures c.in-Ok-try_copy.ensures c.in-Ok-push.ensures.ok c.self.invariant c.in-Ok.ensures).description
+
+pub cut-requires-clause-few : goal.cut-requires-clause-few
+cut-requires-clause-few g c =
+    let wide = c.requires ∙ sym (ap (λ (d : RowsAndRays). d.width) c.self.view_is) in
+    few_covered c.self.inside.width _ c.args.row.now c.self.inside.rows c.self.inside.rays c.self.inside.zeros wide (ap (λ n. n - 2) wide) c.self.invariant

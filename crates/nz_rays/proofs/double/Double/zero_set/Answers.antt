@@ -1,4 +1,4 @@
-use Rattle.std.proofs.Common.{◌≡◌, ◌<◌, List, [], ℕ, length, get_or, sym, ap, subst, arith}
+use Rattle.std.proofs.Common.{[], length, get_or, sym, ap, subst, arith}
 use Rattle.nz_rays.specs.Descriptions.{RowsAndRays, AreZeros}
 use Rattle.nz_rays.proofs.PlaceLemmas.{zip_at, zip_length}
 use Rattle.nz_rays.proofs.double.Double.zero_set.Goals as goal
