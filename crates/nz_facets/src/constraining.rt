@@ -1,0 +1,77 @@
+ghost use Rattle.std.specs.Prelude.{◌≡◌, ◌++◌, map, IfOk, MatchResult};
+ghost use Rattle.std.specs.List.{AllByRecursion as Each};
+ghost use Rattle.nz_spec.specs.Vectors.{HasWidth};
+ghost use Rattle.nz_spec.specs.Sums.{IsInCone};
+ghost use Rattle.nz_spec.specs.Constraints.{Zero, NotNegative};
+ghost use Rattle.nz_pointed.specs.Pointed.{IsTooLarge};
+ghost use Rattle.nz_facets.specs.Members.{HaveMembers};
+
+use crate::describing::describe;
+use nz_vec::{Constraint, Constraints, NoMemory, Num, Rows, Scalar};
+use std::alloc::Global;
+
+/// Constraints that exactly those vectors meet of which some positive multiple is a sum of the
+/// generators with counts: the equations and then the support forms. Range comes as with `describe`.
+pub fn cone_constraints<T: Scalar>(
+    alloc: Global,
+    width: usize,
+    gens: &Rows<T>,
+) -> Result<Constraints<T>, Num>
+    requires { Each (HasWidth width) gens.now }
+    ensures { MatchResult result (HaveMembers width (IsInCone width gens.now)) (λ e. e ≡ Num.Range → IsTooLarge T.HALF width gens.now) }
+{
+    let description = match describe(alloc, width, gens) {
+        Ok(description) => description,
+        Err(refusal) => return Err(refusal),
+    };
+    let zeros = match with_zeros(alloc, Constraints::new(alloc), &description.equations) {
+        Ok(zeros) => zeros,
+        Err(refusal) => return Err(Num::from(refusal)),
+    };
+    match with_not_negatives(alloc, zeros, &description.support) {
+        Ok(all) => Ok(all),
+        Err(refusal) => Err(Num::from(refusal)),
+    }
+}
+
+// Appends that each form is to be 0.
+fn with_zeros<T: Scalar>(
+    alloc: Global,
+    mut list: Constraints<T>,
+    forms: &Rows<T>,
+) -> Result<Constraints<T>, NoMemory>
+    ensures { IfOk result (λ c. c ≡ list ++ map Zero forms.now) }
+{
+    for place in 0..forms.len() {
+        let form = match forms.at(place).try_copy() {
+            Ok(form) => form,
+            Err(refusal) => return Err(refusal),
+        };
+        match list.push(Constraint::Zero(form)) {
+            Ok(()) => {}
+            Err(refusal) => return Err(refusal),
+        }
+    }
+    Ok(list)
+}
+
+// Appends that each form is to be at least 0.
+fn with_not_negatives<T: Scalar>(
+    alloc: Global,
+    mut list: Constraints<T>,
+    forms: &Rows<T>,
+) -> Result<Constraints<T>, NoMemory>
+    ensures { IfOk result (λ c. c ≡ list ++ map NotNegative forms.now) }
+{
+    for place in 0..forms.len() {
+        let form = match forms.at(place).try_copy() {
+            Ok(form) => form,
+            Err(refusal) => return Err(refusal),
+        };
+        match list.push(Constraint::NotNegative(form)) {
+            Ok(()) => {}
+            Err(refusal) => return Err(refusal),
+        }
+    }
+    Ok(list)
+}
