@@ -1,16 +1,15 @@
 -- Why a number of the walk is no value of the type: something of the simplex is too large.
-use Rattle.std.proofs.Common.{◌≡◌, ℕ, zero, suc, ◌+◌, ◌*◌, ◌<◌, ◌≤◌, ◌⊎◌, inl, inr, List, [], ◌∷◌, ◌++◌, length, map, take, get_or, ℤ, pos, negsuc, ◌+ℤ◌, ◌*ℤ◌, neg_ℤ, ◌≤ℤ◌, ◌<ℤ◌, Contains, refl, sym, ap, ◌∙◌, subst, arith}
+use Rattle.std.proofs.Common.{◌≡◌, ℕ, zero, suc, ◌+◌, ◌<◌, ◌≤◌, ◌⊎◌, inl, inr, List, [], ◌∷◌, length, take, get_or, ℤ, pos, negsuc, ◌+ℤ◌, ◌*ℤ◌, neg_ℤ, ◌≤ℤ◌, ◌<ℤ◌, Contains, refl, sym, ap, ◌∙◌, subst, arith}
 use Rattle.std.specs.Prelude.{unsigned_abs}
 use Rattle.std.proofs.lemmas.Int.{ints, unsigned_abs-mul}
-use Rattle.std.proofs.lemmas.List.{length-map, get_or-map, take_all}
-use Rattle.std.proofs.lemmas.Slice.Zip.{AllZip-long}
+use Rattle.std.proofs.lemmas.List.{length-map, take_all}
 use Rattle.std.proofs.Math.IntN.{*ℤ_comm}
 use Rattle.std.specs.List.{AllByRecursion as Each, AllZip}
-use Rattle.nz_spec.specs.Vectors.{Vector, dot, plus, minus, scaled, opposite, combination, values_at, entry, zero_vector, unit_vectors, HasWidth}
-use Rattle.nz_spec.specs.Boxes.{IsFloor, IsFloorSum}
+use Rattle.nz_spec.specs.Vectors.{Vector, dot, plus, minus, scaled, opposite, combination, values_at, entry, zero_vector, HasWidth}
+use Rattle.nz_spec.specs.Boxes.{IsFloor}
 use Rattle.nz_spec.proofs.ListLaws.{contains_here, contains_there}
 use Rattle.nz_order.proofs.OrderLaws.{nat_compare}
-use Rattle.nz_linear.specs.DualPairs.{Pair, pair_of, divisor, HasWidths, IsDual, IsDualPair, IsCompleteOn, product, spread_factors}
+use Rattle.nz_linear.specs.DualPairs.{Pair, pair_of, divisor, HasWidths, IsDual, IsCompleteOn, product, spread_factors}
 use Rattle.nz_linear.specs.Echelon.{unit_at}
 use Rattle.nz_linear.proofs.DualPairs.{product_positive, expansion, spread_is, length-factors}
 use Rattle.nz_linear.proofs.Elimination.{all_of_width}
@@ -23,13 +22,14 @@ use Rattle.nz_scalar.specs.Room.{IsWithin, HasRoom}
 use Rattle.nz_vec.specs.Combinations.{CombinationFits}
 use Rattle.nz_vec.specs.Sums.{SumsFit}
 use Rattle.nz_vec.proofs.RoomLemmas.{combination_fits}
-use Rattle.nz_classes.specs.Classes.{HasReducedValues, IsRestOf}
+use Rattle.nz_classes.specs.Classes.{HasReducedValues}
 use Rattle.nz_classes.specs.Steps.{HasValueOutside, HasSumOutside, HasPairOutside, HasColumnOutside, AreCarries, IsCarry, products, column_terms}
 use Rattle.nz_classes.specs.Sums.{sum_of}
-use Rattle.nz_classes.specs.Walks.{paired, IsFullSimplex, IsNamed, IsTooLarge, measure, pair_measure}
+use Rattle.nz_classes.specs.Walks.{paired, IsFullSimplex, IsNamed, IsTooLarge}
+use Rattle.nz_range.specs.Measures.{measure, pair_measure}
 use Rattle.nz_classes.proofs.EntryLemmas.{column_sum}
-use Rattle.nz_classes.proofs.SimplexLemmas.{vectors-paired, length-paired, pair_at, zip_at, side_width, form_width, divisor_positive, reduced_at, value_at, sides_wide}
-use Rattle.nz_classes.proofs.SortLemmas.{each_at, contains_at}
+use Rattle.nz_classes.proofs.SimplexLemmas.{vectors-paired, length-paired, pair_at, zip_at, form_width, divisor_positive, reduced_at, value_at, sides_wide}
+use Rattle.nz_classes.proofs.SortLemmas.{contains_at}
 use Rattle.nz_classes.proofs.WalkLemmas.{point_of}
 
 -- ---- sizes

@@ -1,15 +1,14 @@
 -- Lists that are filled place by place: values, quotients, carries, sums of vectors.
-use Rattle.std.proofs.Common.{◌≡◌, ℕ, zero, suc, ◌+◌, ◌<◌, ◌≤◌, ◌⊎◌, inl, inr, List, [], ◌∷◌, ◌++◌, length, map, take, get_or, Option, None, Some, ℤ, pos, negsuc, ◌+ℤ◌, ◌-ℤ◌, ◌*ℤ◌, neg_ℤ, ◌≤ℤ◌, ◌<ℤ◌, Contains, refl, sym, ap, ◌∙◌, subst, arith, append_assoc}
+use Rattle.std.proofs.Common.{◌≡◌, ℕ, zero, suc, ◌+◌, ◌<◌, ◌≤◌, ◌⊎◌, inl, inr, List, [], ◌∷◌, ◌++◌, length, map, take, get_or, Option, None, Some, ℤ, pos, negsuc, ◌+ℤ◌, ◌-ℤ◌, ◌*ℤ◌, neg_ℤ, Contains, refl, sym, ap, ◌∙◌, subst, arith, append_assoc}
 use Rattle.std.proofs.lemmas.Int.{ints}
 use Rattle.std.proofs.lemmas.List.{append-nil, length-map, map-append, get_or-map, get_or_append_left, take_more, take_all}
 use Rattle.std.proofs.Math.Seq.{get_or-append_seam}
-use Rattle.std.proofs.Math.IntN.{*ℤ-zero}
 use Rattle.std.specs.List.{AllByRecursion as Each}
 use Rattle.nz_spec.specs.Vectors.{Vector, dot, plus, minus, scaled, opposite, combination, zero_vector, values_at, entry, HasWidth}
 use Rattle.nz_spec.proofs.ListLaws.{contains_cases, contains_none}
 use Rattle.nz_spec.proofs.SumLaws.{length-combination}
 use Rattle.nz_spec.proofs.VectorLaws.{length-minus, plus_assoc, one-scaled}
-use Rattle.nz_linear.specs.DualPairs.{Pair, pair_of, divisor}
+use Rattle.nz_linear.specs.DualPairs.{pair_of, divisor}
 use Rattle.nz_order.proofs.OrderLaws.{nat_compare}
 use Rattle.nz_linear.proofs.Ring.{sums, neg-mul}
 use Rattle.nz_linear.proofs.Units.{entry-zero_vector}
@@ -23,7 +22,7 @@ use Rattle.nz_classes.specs.Steps.{HasValueOutside, HasSumOutside, HasPairOutsid
 use Rattle.nz_classes.specs.Sums.{sum_of, IsSumRefusal}
 use Rattle.nz_classes.specs.Walks.{paired}
 use Rattle.nz_classes.proofs.SimplexLemmas.{length-paired, pair_at}
-use Rattle.nz_classes.proofs.SortLemmas.{each_at, contains_at, pushed}
+use Rattle.nz_classes.proofs.SortLemmas.{each_at, contains_at}
 
 -- ---- one more
 pub row_more : {A B : Type 0} (f : A → B) (xs : List A) (i : ℕ) (d : A) (done : List B) (b : B) (new : List B) → i < length xs → done ≡ take i (map f xs) → b ≡ f (get_or xs i d) → new ≡ done ++ b ∷ [] → new ≡ take (i + 1) (map f xs)

@@ -1,23 +1,21 @@
 -- The pairs of a simplex: their floors leave the point of a class.
-use Rattle.std.proofs.Common.{◌≡◌, ℕ, zero, suc, ◌+◌, ◌<◌, ◌≤◌, inl, inr, List, [], ◌∷◌, ◌++◌, length, map, take, get_or, ℤ, pos, negsuc, ◌+ℤ◌, ◌-ℤ◌, ◌*ℤ◌, neg_ℤ, ◌≤ℤ◌, ◌<ℤ◌, Contains, refl, sym, ap, ◌∙◌, subst, arith}
+use Rattle.std.proofs.Common.{◌≡◌, ℕ, zero, suc, ◌+◌, ◌<◌, ◌≤◌, inl, inr, List, [], ◌∷◌, ◌++◌, length, map, take, get_or, ℤ, pos, ◌+ℤ◌, ◌-ℤ◌, ◌*ℤ◌, neg_ℤ, ◌≤ℤ◌, ◌<ℤ◌, refl, sym, ap, ◌∙◌, subst, arith}
 use Rattle.std.proofs.lemmas.Int.{ints}
 use Rattle.std.proofs.lemmas.List.{length-map, get_or-map, take_more, take_all}
 use Rattle.std.proofs.lemmas.Slice.Zip.{AllZip-long}
 use Rattle.std.specs.List.{AllByRecursion as Each, AllZip}
-use Rattle.nz_spec.specs.Vectors.{Vector, dot, plus, minus, scaled, opposite, combination, values_at, entry, unit_vectors, HasWidth, IsMultipleOf}
+use Rattle.nz_spec.specs.Vectors.{Vector, dot, plus, minus, opposite, combination, values_at, entry, HasWidth, IsMultipleOf}
 use Rattle.nz_spec.specs.Boxes.{IsFloor}
-use Rattle.nz_spec.proofs.IntLaws.{add-mul}
 use Rattle.nz_spec.proofs.VectorLaws.{dot-minus, length-minus, plus_comm}
 use Rattle.nz_spec.proofs.SumLaws.{length-combination}
-use Rattle.nz_linear.specs.DualPairs.{Pair, pair_of, divisor, HasWidths, IsDual, IsDualPair}
+use Rattle.nz_linear.specs.DualPairs.{Pair, pair_of, divisor, HasWidths, IsDual}
 use Rattle.nz_linear.specs.Echelon.{unit_at}
 use Rattle.nz_linear.proofs.DualPairs.{widths_of_vectors}
 use Rattle.nz_linear.proofs.Floors.{floor_rest, values_at_combination}
 use Rattle.nz_linear.proofs.Lists.{zip_left}
 use Rattle.nz_linear.proofs.Ring.{sums, one-mul, two-mul, neg-mul}
-use Rattle.nz_linear.proofs.Units.{dot-unit_at, length-unit_at}
-use Rattle.nz_linear.proofs.VectorLaws.{length-plus, dot-plus}
-use Rattle.nz_scalar.specs.Division.{IsFloorQuotient}
+use Rattle.nz_linear.proofs.Units.{dot-unit_at}
+use Rattle.nz_linear.proofs.VectorLaws.{dot-plus}
 use Rattle.nz_classes.specs.Classes.{AreOneClass, HasReducedValues, IsRestOf}
 use Rattle.nz_classes.specs.Steps.{AreQuotients, AreCarries, IsCarry}
 use Rattle.nz_classes.specs.Walks.{paired, IsFullSimplex}

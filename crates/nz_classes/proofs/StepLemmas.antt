@@ -1,21 +1,20 @@
 -- What is prepared of a simplex, at a column; and the causes in the words of a refusal.
-use Rattle.std.proofs.Common.{◌≡◌, ℕ, ◌<◌, inl, inr, List, [], ◌∷◌, length, map, get_or, ℤ, pos, Contains, refl, sym, ap, ◌∙◌, subst, arith}
+use Rattle.std.proofs.Common.{◌≡◌, ℕ, ◌<◌, inl, inr, List, [], ◌∷◌, length, get_or, ℤ, Contains, refl, ap, ◌∙◌, subst, arith}
 use Rattle.std.proofs.lemmas.List.{length-map, get_or-map}
 use Rattle.std.proofs.lemmas.Slice.Zip.{AllZip-long}
 use Rattle.std.specs.List.{AllByRecursion as Each, AllZip}
 use Rattle.nz_spec.specs.Vectors.{Vector, dot, values_at, unit_vectors, HasWidth}
 use Rattle.nz_spec.proofs.ListLaws.{contains_cases, contains_none, Each-contains}
-use Rattle.nz_linear.specs.DualPairs.{Pair, divisor}
+use Rattle.nz_linear.specs.DualPairs.{Pair}
 use Rattle.nz_linear.specs.Echelon.{unit_at}
 use Rattle.nz_linear.proofs.Lists.{zip_to_right}
-use Rattle.nz_scalar.specs.Room.{HasRoom}
 use Rattle.nz_vec.specs.declared.answers.Num.{Num}
 use Rattle.nz_vec.specs.declared.answers.Num.TheVariants.{Range, NoMemory}
 use Rattle.nz_classes.specs.Causes.{IsCaused}
-use Rattle.nz_classes.specs.Classes.{HasReducedValues, IsRestOf}
+use Rattle.nz_classes.specs.Classes.{IsRestOf}
 use Rattle.nz_classes.specs.Steps.{IsPrepared}
 use Rattle.nz_classes.specs.Walks.{paired, IsFullSimplex, IsNamed, IsTooLarge}
-use Rattle.nz_classes.proofs.SimplexLemmas.{zip_at, divisors_long}
+use Rattle.nz_classes.proofs.SimplexLemmas.{zip_at}
 use Rattle.nz_classes.proofs.UnitLemmas.{length-unit_vectors, unit_vector_at}
 use Rattle.nz_classes.proofs.WalkLemmas.{point_of}
 

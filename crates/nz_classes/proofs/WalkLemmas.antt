@@ -10,7 +10,7 @@ use Rattle.std.specs.List.Sorted.{IsPermutation}
 use Rattle.nz_spec.specs.Vectors.{Vector, dot, plus, scaled, combination, zero_vector, unit_vectors, HasWidth}
 use Rattle.nz_spec.specs.Sums.{IsInBox}
 use Rattle.nz_spec.specs.Order.{Pairwise, ListsOnce}
-use Rattle.nz_spec.proofs.VectorLaws.{one-scaled, dot-zero, dot-scaled}
+use Rattle.nz_spec.proofs.VectorLaws.{dot-zero, dot-scaled}
 use Rattle.nz_spec.proofs.SumLaws.{length-zero_vector}
 use Rattle.nz_spec.proofs.ListLaws.{Each-contains, Each-from_contains}
 use Rattle.nz_order.proofs.OrderLaws.{Each-push, Pairwise-push}
@@ -24,7 +24,6 @@ use Rattle.nz_linear.proofs.Floors.{reduced_in_box, values_at_combination}
 use Rattle.nz_linear.proofs.Lists.{each_map, each_of_map, zip_change}
 use Rattle.nz_linear.proofs.Ring.{sums}
 use Rattle.nz_linear.proofs.Signs.{cancel_lt, mul_is_nonneg}
-use Rattle.nz_linear.proofs.VectorLaws.{length-plus, length-scaled}
 use Rattle.nz_spec.proofs.IntLaws.{mul-nonneg}
 use Rattle.nz_linear.proofs.Signs.{mul_lt}
 use Rattle.nz_vec.specs.declared.answers.Work.{Work}

@@ -1,9 +1,10 @@
 -- What a walk through the classes of a simplex is to answer.
-use Rattle.std.specs.Prelude.{◌≡◌, ◌⊎◌, ⊤, ℕ, ◌+◌, ◌<◌, ◌≤◌, ◌*ℤ◌, unsigned_abs, List, [], ◌∷◌, length, Contains}
+use Rattle.std.specs.Prelude.{◌≡◌, ◌⊎◌, ⊤, ℕ, ◌<◌, ◌≤◌, List, [], ◌∷◌, length, Contains}
 use Rattle.nz_spec.specs.Vectors.{Vector}
 use Rattle.nz_spec.specs.Boxes.{IsFloorSum}
 use Rattle.nz_spec.specs.Order.{IsLexBefore, IsListOf, MoreThan}
 use Rattle.nz_linear.specs.DualPairs.{Pair, pair_of, IsDualPair, OnlyZero}
+use Rattle.nz_range.specs.Measures.{measure, pair_measure}
 use Rattle.nz_vec.specs.declared.answers.Work.{Work}
 use Rattle.nz_vec.specs.declared.answers.Work.TheVariants.{Range, TooMany, Stopped, NoMemory}
 use Rattle.nz_classes.specs.Classes.{IsPoint}
@@ -23,17 +24,6 @@ pub record IsFullSimplex (sides forms : List Vector) : Type 0 where
 -- the points in lexicographic order, and no more than the limit
 abbrev pub ListsPoints : ℕ → List Vector → List Vector → Type 0
 ListsPoints limit sides xs = IsListOf IsLexBefore (IsPoint (length sides) sides) xs × (length xs ≤ limit)
-
--- the sum of the sizes of the entries
-abbrev pub measure : Vector → ℕ
-measure [] = 0
-measure (a ∷ x) = unsigned_abs a + measure x
-
--- the sum of the sizes of the products of the entries
-abbrev pub pair_measure : Vector → Vector → ℕ
-pair_measure [] x = 0
-pair_measure (a ∷ f) [] = 0
-pair_measure (a ∷ f) (b ∷ x) = unsigned_abs (a *ℤ b) + pair_measure f x
 
 -- a point, a side or a floor sum of the simplex
 abbrev pub IsNamed : List Vector → Vector → Type 0

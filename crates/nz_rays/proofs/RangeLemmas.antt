@@ -20,7 +20,8 @@ use Rattle.nz_pointed.proofs.ListLemmas.{each_at}
 use Rattle.nz_rays.specs.declared.crossings.Crossing.{Crossing}
 use Rattle.nz_rays.specs.Crossings.{AreOnBothSides}
 use Rattle.nz_rays.specs.Cuts.{crossing_sum}
-use Rattle.nz_rays.specs.Measures.{measure, pair_measure, HasLargeRay, IsCrossingWithin}
+use Rattle.nz_range.specs.Measures.{measure, pair_measure}
+use Rattle.nz_rays.specs.Measures.{HasLargeRay, IsCrossingWithin}
 use Rattle.nz_rays.proofs.CutLemmas.{value_at, values_length}
 
 -- ---- absolute values

@@ -1,20 +1,10 @@
 -- How large the numbers are that a step of double description reckons with.
-use Rattle.std.specs.Prelude.{◌⊎◌, ℕ, ◌+◌, List, [], ◌∷◌, get_or, ℤ, pos, ◌*ℤ◌, ◌<ℤ◌, unsigned_abs, Contains}
+use Rattle.std.specs.Prelude.{◌⊎◌, List, [], get_or, ℤ, pos, ◌<ℤ◌, Contains}
 use Rattle.std.specs.List.{AllByRecursion as Each}
 use Rattle.nz_spec.specs.Vectors.{Vector}
 use Rattle.nz_scalar.specs.Room.{IsWithin}
+use Rattle.nz_range.specs.Measures.{measure, pair_measure}
 use Rattle.nz_rays.specs.declared.crossings.Crossing.{Crossing}
-
--- the sum of the absolute values of the entries
-abbrev pub measure : Vector → ℕ
-measure [] = 0
-measure (a ∷ x) = unsigned_abs a + measure x
-
--- the sum of the absolute values of the products of the entries
-abbrev pub pair_measure : Vector → Vector → ℕ
-pair_measure [] x = 0
-pair_measure (a ∷ f) [] = 0
-pair_measure (a ∷ f) (b ∷ x) = unsigned_abs (a *ℤ b) + pair_measure f x
 
 -- one of the rays, or the form at one of them, has a measure above the bound
 pub record HasLargeRay (bound : ℤ) (form : Vector) (rays : List Vector) : Type 0 where

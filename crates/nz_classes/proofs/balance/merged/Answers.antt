@@ -1,4 +1,4 @@
-use Rattle.nz_classes.proofs.SumLemmas.{merge_start, merge_more, merge_end, merge_refusal}
+use Rattle.nz_classes.proofs.SumLemmas.{merge_more, merge_refusal}
 use Rattle.nz_classes.proofs.balance.merged.Goals as goal
 
 pub returns-in-None : goal.returns-in-None

@@ -1,4 +1,4 @@
-use Rattle.nz_classes.proofs.SumLemmas.{split_start, split_more, split_end}
+use Rattle.nz_classes.proofs.SumLemmas.{split_more}
 use Rattle.nz_classes.proofs.balance.split.Goals as goal
 
 pub loop-term-preserved : goal.loop-term-preserved

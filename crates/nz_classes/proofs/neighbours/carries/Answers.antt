@@ -1,4 +1,4 @@
-use Rattle.std.proofs.Common.{◌≡◌, ◌<◌, ◌≤◌, ◌+◌, ℕ, length, map, ℤ, pos, ◌+ℤ◌, sym, ap, ◌∙◌, subst, arith}
+use Rattle.std.proofs.Common.{◌≡◌, ◌+◌, length, ◌+ℤ◌, sym, ap, ◌∙◌, subst, arith}
 use Rattle.nz_spec.specs.Vectors.{entry}
 use Rattle.std.proofs.lemmas.List.{length-map}
 use Rattle.nz_classes.specs.Steps.{AreCarries, IsCarry}

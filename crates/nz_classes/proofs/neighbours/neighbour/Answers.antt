@@ -1,4 +1,4 @@
-use Rattle.std.proofs.Common.{◌≡◌, ◌<◌, ◌+◌, inl, refl, ℕ, [], List, length, map, get_or, ℤ, sym, ap, ◌∙◌, subst, arith}
+use Rattle.std.proofs.Common.{inl, refl, ℕ, [], length, get_or, sym, ap, ◌∙◌, subst, arith}
 use Rattle.std.specs.Prelude.{unsigned_abs}
 use Rattle.std.specs.List.{AllByRecursion as Each}
 use Rattle.nz_spec.specs.Vectors.{Vector, HasWidth, plus, minus, opposite, combination, values_at}

@@ -1,6 +1,6 @@
-use Rattle.std.proofs.Common.{◌≡◌, ◌<◌, ◌≤◌, ◌+◌, ◌++◌, ℕ, length, map, ℤ, ◌*ℤ◌, sym, ap, ◌∙◌, subst, arith}
-use Rattle.std.proofs.lemmas.List.{take_all, append-nil}
-use Rattle.nz_spec.specs.Vectors.{Vector, entry}
+use Rattle.std.proofs.Common.{◌<◌, ◌++◌, length, map, ap, ◌∙◌, arith}
+use Rattle.std.proofs.lemmas.List.{take_all}
+use Rattle.nz_spec.specs.Vectors.{Vector}
 use Rattle.nz_classes.specs.Steps.{products}
 use Rattle.nz_classes.proofs.EntryLemmas.{length-products, product_more, product_outside, product_is, products_none}
 use Rattle.nz_classes.proofs.neighbours.push_products.Goals as goal

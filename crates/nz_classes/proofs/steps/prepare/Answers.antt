@@ -1,7 +1,7 @@
-use Rattle.std.proofs.Common.{◌≡◌, ◌<◌, ◌+◌, ℕ, [], List, length, inl, inr, refl, sym, ap, ◌∙◌, subst, arith}
-use Rattle.std.specs.Prelude.{unsigned_abs, Contains}
+use Rattle.std.proofs.Common.{ℕ, length, inl, inr, refl, sym, subst}
+use Rattle.std.specs.Prelude.{unsigned_abs}
 use Rattle.std.specs.List.{AllByRecursion as Each}
-use Rattle.nz_spec.specs.Vectors.{Vector, HasWidth, unit_vectors}
+use Rattle.nz_spec.specs.Vectors.{HasWidth, unit_vectors}
 use Rattle.nz_classes.specs.Walks.{paired}
 use Rattle.nz_classes.proofs.CauseLemmas.{caused_value}
 use Rattle.nz_classes.proofs.SimplexLemmas.{sides_wide, forms_wide}

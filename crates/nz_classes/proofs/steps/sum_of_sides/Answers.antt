@@ -1,5 +1,5 @@
-use Rattle.std.proofs.Common.{◌≡◌, ◌<◌, ◌≤◌, ◌+◌, ℕ, [], length, take, ℤ, sym, ap, ◌∙◌, subst, arith}
-use Rattle.nz_spec.specs.Vectors.{Vector, HasWidth, combination}
+use Rattle.std.proofs.Common.{◌<◌, ℕ, [], length, take, sym, ap, ◌∙◌, arith}
+use Rattle.nz_spec.specs.Vectors.{HasWidth}
 use Rattle.nz_spec.proofs.SumLaws.{length-combination}
 use Rattle.nz_linear.specs.Echelon.{unit_at}
 use Rattle.nz_classes.proofs.EntryLemmas.{combination_none, combination_end, sum_more, sum_outside}

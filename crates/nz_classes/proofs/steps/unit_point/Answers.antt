@@ -1,7 +1,7 @@
-use Rattle.std.proofs.Common.{◌≡◌, ◌<◌, ◌+◌, ℕ, [], List, length, map, get_or, ℤ, pos, negsuc, refl, sym, ap, ◌∙◌, subst, arith}
+use Rattle.std.proofs.Common.{◌≡◌, ℕ, length, sym, ap, ◌∙◌, subst}
 use Rattle.std.specs.Prelude.{unsigned_abs}
 use Rattle.std.specs.List.{AllByRecursion as Each}
-use Rattle.nz_spec.specs.Vectors.{Vector, HasWidth, minus, combination}
+use Rattle.nz_spec.specs.Vectors.{HasWidth, combination}
 use Rattle.nz_spec.proofs.SumLaws.{length-combination}
 use Rattle.nz_linear.proofs.Units.{length-unit_at}
 use Rattle.nz_linear.specs.Echelon.{unit_at}

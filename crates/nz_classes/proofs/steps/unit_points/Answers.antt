@@ -1,4 +1,4 @@
-use Rattle.std.proofs.Common.{◌≡◌, ◌<◌, ◌≤◌, ◌+◌, ℕ, [], List, length, take, sym, ap, ◌∙◌, subst, arith}
+use Rattle.std.proofs.Common.{◌<◌, [], length, take, sym, subst, arith}
 use Rattle.std.specs.List.{AllZip}
 use Rattle.nz_spec.specs.Vectors.{Vector, unit_vectors}
 use Rattle.nz_classes.specs.Classes.{IsRestOf}

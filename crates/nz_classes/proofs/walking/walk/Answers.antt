@@ -1,5 +1,5 @@
 use Rattle.std.proofs.Common.{ℕ, [], List, length, sym, subst}
-use Rattle.std.specs.Prelude.{unsigned_abs, Contains}
+use Rattle.std.specs.Prelude.{unsigned_abs}
 use Rattle.std.specs.List.{AllByRecursion as Each}
 use Rattle.nz_spec.specs.Vectors.{Vector}
 use Rattle.nz_linear.specs.Echelon.{unit_at}
