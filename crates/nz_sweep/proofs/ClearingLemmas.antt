@@ -5,7 +5,6 @@ use Rattle.std.specs.List.{AllByRecursion as Each, AllZip, insert, remove}
 use Rattle.std.proofs.lemmas.Int.{ints}
 use Rattle.std.proofs.lemmas.List.{take-append-drop, take_more}
 use Rattle.nz_spec.specs.Vectors.{Vector, dot, plus, scaled, HasWidth, IsMultipleOf}
-use Rattle.nz_spec.specs.Sums.{IsIndependent}
 use Rattle.nz_spec.proofs.IntLaws.{multiple_sub, multiple_mul}
 use Rattle.nz_spec.proofs.VectorLaws.{dot-scaled, one-scaled}
 use Rattle.nz_scalar.specs.Division.{IsFloorQuotient}
@@ -20,33 +19,33 @@ use Rattle.nz_sweep.proofs.CutLemmas.{AreBaseOfSame, base_first, base_back, base
 abbrev pub IsValueOf : Vector → ℤ → Valued → Type 0
 IsValueOf h m v = IsMultipleOf m (dot h v.vector -ℤ v.value)
 
--- from vectors with values to others: where the former are independent, the latter are a base of the same group, and their values stay those of any form
+-- from vectors with values to others, which generate the same group, and are a base if the former are; their values stay those of any form
 abbrev pub Clears : ℕ → List Valued → List Valued → Type 0
-Clears w vs us = Each (HasWidth w) (vectors_of vs) → IsIndependent w (vectors_of vs) → AreBaseOfSame w (vectors_of vs) (vectors_of us) × ((h : Vector) (m : ℤ) → Each (IsValueOf h m) vs → Each (IsValueOf h m) us)
+Clears w vs us = Each (HasWidth w) (vectors_of vs) → AreBaseOfSame w (vectors_of vs) (vectors_of us) × ((h : Vector) (m : ℤ) → Each (IsValueOf h m) vs → Each (IsValueOf h m) us)
 
 vectors_join : (xs ys : List Valued) → vectors_of (xs ++ ys) ≡ vectors_of xs ++ vectors_of ys
 vectors_join [] ys = refl
 vectors_join (x ∷ xs) ys = ap (λ t. x.vector ∷ t) (vectors_join xs ys)
 
 pub clears_then : (w : ℕ) (vs us ts : List Valued) → Clears w vs us → Clears w us ts → Clears w vs ts
-clears_then w vs us ts a b = λ l i.
-    let x = a l i in
-    let y = b x.0.widths x.0.independent in
+clears_then w vs us ts a b = λ l.
+    let x = a l in
+    let y = b x.0.widths in
     (base_then w _ _ _ x.0 y.0, λ h m v. y.1 h m (x.1 h m v))
 
 pub clears_self : (w : ℕ) (vs : List Valued) → Clears w vs vs
-clears_self w vs = λ l i. (base_self w _ l i, λ h m v. v)
+clears_self w vs = λ l. (base_self w _ l, λ h m v. v)
 
 out_split : (w : ℕ) (xs : List Valued) (v : Valued) (ys : List Valued) → Clears w (xs ++ v ∷ ys) (v ∷ (xs ++ ys))
-out_split w xs v ys = λ l i.
+out_split w xs v ys = λ l.
     let e = vectors_join xs (v ∷ ys) in
-    let b = base_first w (vectors_of xs) v.vector (vectors_of ys) (subst (Each (HasWidth w)) e l) (subst (IsIndependent w) e i) in
+    let b = base_first w (vectors_of xs) v.vector (vectors_of ys) (subst (Each (HasWidth w)) e l) in
     (subst (λ (t : List Vector). AreBaseOfSame w t (v.vector ∷ vectors_of (xs ++ ys))) (sym e) (subst (λ (t : List Vector). AreBaseOfSame w (vectors_of xs ++ v.vector ∷ vectors_of ys) (v.vector ∷ t)) (sym (vectors_join xs ys)) b), λ h m k. each_remove (IsValueOf h m) v xs ys k)
 
 in_split : (w : ℕ) (xs : List Valued) (v : Valued) (ys : List Valued) → Clears w (v ∷ (xs ++ ys)) (xs ++ v ∷ ys)
-in_split w xs v ys = λ l i.
+in_split w xs v ys = λ l.
     let e = vectors_join xs ys in
-    let b = base_back w (vectors_of xs) v.vector (vectors_of ys) (subst (λ (t : List Vector). Each (HasWidth w) (v.vector ∷ t)) e l) (subst (λ (t : List Vector). IsIndependent w (v.vector ∷ t)) e i) in
+    let b = base_back w (vectors_of xs) v.vector (vectors_of ys) (subst (λ (t : List Vector). Each (HasWidth w) (v.vector ∷ t)) e l) in
     (subst (λ (t : List Vector). AreBaseOfSame w (v.vector ∷ t) (vectors_of (xs ++ v ∷ ys))) (sym e) (subst (λ (t : List Vector). AreBaseOfSame w (v.vector ∷ (vectors_of xs ++ vectors_of ys)) t) (sym (vectors_join xs (v ∷ ys))) b), λ h m k. each_insert (IsValueOf h m) v xs ys k)
 
 -- a vector is taken out to the front
@@ -101,7 +100,7 @@ zip_values h m w p (b ∷ bs) [] lp vp l v z = absurd z
 zip_values h m w p (b ∷ bs) (c ∷ cs) lp vp l v z = (reduced_value h m w p b c lp l.0 z.0 vp v.0, zip_values h m w p bs cs lp vp l.1 v.1 z.1)
 
 pub clears_round : (w : ℕ) (p : Valued) (bs cs : List Valued) → AllZip (IsReduced p) bs cs → Clears w (p ∷ bs) (p ∷ cs)
-clears_round w p bs cs z = λ l i. (changed_all w p.vector [] (vectors_of bs) (vectors_of cs) l i (zip_vectors p bs cs z), λ h m v. (v.0, zip_values h m w p bs cs l.0 v.0 l.1 v.1 z))
+clears_round w p bs cs z = λ l. (changed_all w p.vector [] (vectors_of bs) (vectors_of cs) l (zip_vectors p bs cs z), λ h m v. (v.0, zip_values h m w p bs cs l.0 v.0 l.1 v.1 z))
 
 -- ---- the values of the others get smaller than that of the vector that clears them
 smaller : (a p q c : ℤ) → p ≢ pos 0 → IsFloorQuotient a p q → c ≡ a -ℤ q *ℤ p → unsigned_abs c < unsigned_abs p

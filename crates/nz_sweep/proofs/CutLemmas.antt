@@ -15,10 +15,10 @@ use Rattle.nz_linear.proofs.VectorLaws.{length-plus, length-scaled, dot-plus, pl
 use Rattle.nz_linear.proofs.Combinations.{combination-skip}
 use Rattle.nz_linear.proofs.GroupCuts.{cleared_group}
 
--- us are independent vectors of that width, and generate the group that vs generate
+-- us have that width, are independent if vs are, and generate the group that vs generate
 pub record AreBaseOfSame (w : ℕ) (vs us : List Vector) : Type 0 where
   pub widths : Each (HasWidth w) us
-  pub independent : IsIndependent w us
+  pub independent : IsIndependent w vs → IsIndependent w us
   pub same : (x : Vector) → IsInGroup w vs x ↔ IsInGroup w us x
 
 -- ---- one vector of a base stands first instead
@@ -63,8 +63,8 @@ put_in w (x ∷ xs) p ys c (d ∷ ds) l =
       zero = λ z. let r = t.zero z.1 in (r.0, (z.0, r.1));
     }
 
-pub base_first : (w : ℕ) (xs : List Vector) (p : Vector) (ys : List Vector) → Each (HasWidth w) (xs ++ p ∷ ys) → IsIndependent w (xs ++ p ∷ ys) → AreBaseOfSame w (xs ++ p ∷ ys) (p ∷ (xs ++ ys))
-base_first w xs p ys l i = record {
+pub base_first : (w : ℕ) (xs : List Vector) (p : Vector) (ys : List Vector) → Each (HasWidth w) (xs ++ p ∷ ys) → AreBaseOfSame w (xs ++ p ∷ ys) (p ∷ (xs ++ ys))
+base_first w xs p ys l = record {
   widths = each_remove (HasWidth w) p xs ys l;
   independent = independent;
   same = λ x. (
@@ -73,27 +73,26 @@ base_first w xs p ys l i = record {
   );
 }
   where
-    independent : (cs : List ℤ) → length cs ≡ length (p ∷ (xs ++ ys)) → IsZero (combination w cs (p ∷ (xs ++ ys))) → IsZero cs
-    independent [] e z = absurd (omega arith)
-    independent (c ∷ ds) e z = let t = put_in w xs p ys c ds (omega arith) in t.zero (i t.factors t.one_each (subst IsZero (sym t.same) z))
+    independent : IsIndependent w (xs ++ p ∷ ys) → (cs : List ℤ) → length cs ≡ length (p ∷ (xs ++ ys)) → IsZero (combination w cs (p ∷ (xs ++ ys))) → IsZero cs
+    independent i [] e z = absurd (omega arith)
+    independent i (c ∷ ds) e z = let t = put_in w xs p ys c ds (omega arith) in t.zero (i t.factors t.one_each (subst IsZero (sym t.same) z))
 
     back : (x : Vector) (cs : List ℤ) → length cs ≡ length (p ∷ (xs ++ ys)) → combination w cs (p ∷ (xs ++ ys)) ≡ x → IsInGroup w (xs ++ p ∷ ys) x
     back x [] e s = absurd (omega arith)
     back x (c ∷ ds) e s = let t = put_in w xs p ys c ds (omega arith) in record { factors = t.factors; one_each = t.one_each; same = t.same ∙ s }
 
-pub base_back : (w : ℕ) (xs : List Vector) (p : Vector) (ys : List Vector) → Each (HasWidth w) (p ∷ (xs ++ ys)) → IsIndependent w (p ∷ (xs ++ ys)) → AreBaseOfSame w (p ∷ (xs ++ ys)) (xs ++ p ∷ ys)
-base_back w xs p ys l i =
+pub base_back : (w : ℕ) (xs : List Vector) (p : Vector) (ys : List Vector) → Each (HasWidth w) (p ∷ (xs ++ ys)) → AreBaseOfSame w (p ∷ (xs ++ ys)) (xs ++ p ∷ ys)
+base_back w xs p ys l =
     let widths : Each (HasWidth w) (xs ++ p ∷ ys) = each_insert (HasWidth w) p xs ys l in
-    let independent : IsIndependent w (xs ++ p ∷ ys) = λ cs e z. let t = taken_out w xs p ys cs e in t.zero (i (t.first ∷ t.rest) (ap suc t.one_each) (subst IsZero t.same z)) in
-    let b = base_first w xs p ys widths independent in
-    record { widths = widths; independent = independent; same = λ x. ((b.same x).1, (b.same x).0) }
+    let b = base_first w xs p ys widths in
+    record { widths = widths; independent = λ i cs e z. let t = taken_out w xs p ys cs e in t.zero (i (t.first ∷ t.rest) (ap suc t.one_each) (subst IsZero t.same z)); same = λ x. ((b.same x).1, (b.same x).0) }
 
 -- ---- and the way goes on
 pub base_then : (w : ℕ) (vs us ts : List Vector) → AreBaseOfSame w vs us → AreBaseOfSame w us ts → AreBaseOfSame w vs ts
-base_then w vs us ts a b = record { widths = b.widths; independent = b.independent; same = λ x. ((λ k. (b.same x).0 ((a.same x).0 k)), (λ k. (a.same x).1 ((b.same x).1 k))) }
+base_then w vs us ts a b = record { widths = b.widths; independent = λ i. b.independent (a.independent i); same = λ x. ((λ k. (b.same x).0 ((a.same x).0 k)), (λ k. (a.same x).1 ((b.same x).1 k))) }
 
-pub base_self : (w : ℕ) (vs : List Vector) → Each (HasWidth w) vs → IsIndependent w vs → AreBaseOfSame w vs vs
-base_self w vs l i = record { widths = l; independent = i; same = λ x. ((λ k. k), (λ k. k)) }
+pub base_self : (w : ℕ) (vs : List Vector) → Each (HasWidth w) vs → AreBaseOfSame w vs vs
+base_self w vs l = record { widths = l; independent = λ i. i; same = λ x. ((λ k. k), (λ k. k)) }
 
 -- ---- one vector changed by the first
 changed_sum : (w : ℕ) (p b s : Vector) (c d q : ℤ) → HasWidth w p → HasWidth w b → HasWidth w s → plus (scaled c p) (plus (scaled d (plus b (scaled q p))) s) ≡ plus (scaled (c +ℤ d *ℤ q) p) (plus (scaled d b) s)
@@ -118,8 +117,8 @@ changed_sum w p b s c d q lp lb ls =
         → dot f (plus (scaled c p) (plus (scaled d (plus b (scaled q p))) s)) ≡ dot f (plus (scaled (c +ℤ d *ℤ q) p) (plus (scaled d b) s))
     value f a1 a2 a3 b1 b2 = omega (arith, sums, a1, a2, a3, b1, b2, dot-scaled f c p, dot-scaled f (c +ℤ d *ℤ q) p, dot-scaled f d b, ring c d q (dot f p) (dot f b) (dot f s))
 
-pub changed_second : (w : ℕ) (p b : Vector) (others : List Vector) (q : ℤ) → Each (HasWidth w) (p ∷ b ∷ others) → IsIndependent w (p ∷ b ∷ others) → AreBaseOfSame w (p ∷ b ∷ others) (p ∷ plus b (scaled q p) ∷ others)
-changed_second w p b others q l i = record {
+pub changed_second : (w : ℕ) (p b : Vector) (others : List Vector) (q : ℤ) → Each (HasWidth w) (p ∷ b ∷ others) → AreBaseOfSame w (p ∷ b ∷ others) (p ∷ plus b (scaled q p) ∷ others)
+changed_second w p b others q l = record {
   widths = (l.0, (length-plus w b (scaled q p) l.1.0 (length-scaled w q p l.0), l.1.1));
   independent = independent;
   same = λ x. cleared_group w (p ∷ []) b p others q x l.1.0 (l.0, l.1.1) (contains_here p others);
@@ -128,10 +127,10 @@ changed_second w p b others q l i = record {
     zero_first : (c d q : ℤ) → c +ℤ d *ℤ q ≡ pos 0 → d ≡ pos 0 → c ≡ pos 0
     zero_first c d q e n = let m = ap (λ t. t *ℤ q) n ∙ zero-*ℤ q in omega (arith, sums, e, m)
 
-    independent : (cs : List ℤ) → length cs ≡ length (p ∷ plus b (scaled q p) ∷ others) → IsZero (combination w cs (p ∷ plus b (scaled q p) ∷ others)) → IsZero cs
-    independent [] e z = absurd (omega arith)
-    independent (c ∷ []) e z = absurd (omega arith)
-    independent (c ∷ d ∷ cs) e z =
+    independent : IsIndependent w (p ∷ b ∷ others) → (cs : List ℤ) → length cs ≡ length (p ∷ plus b (scaled q p) ∷ others) → IsZero (combination w cs (p ∷ plus b (scaled q p) ∷ others)) → IsZero cs
+    independent i [] e z = absurd (omega arith)
+    independent i (c ∷ []) e z = absurd (omega arith)
+    independent i (c ∷ d ∷ cs) e z =
         let r = i ((c +ℤ d *ℤ q) ∷ d ∷ cs) e (subst IsZero (changed_sum w p b (combination w cs others) c d q l.0 l.1.0 (length-combination w cs others l.1.1)) z) in
         (zero_first c d q r.0 r.1.0, r.1)
 
@@ -139,26 +138,25 @@ changed_second w p b others q l i = record {
 abbrev pub IsChangedBy : Vector → Vector → Vector → Type 0
 IsChangedBy p b c = (q : ℤ) × (c ≡ plus b (scaled q p))
 
-changed_at : (w : ℕ) (p : Vector) (xs : List Vector) (b c : Vector) (ys : List Vector) → Each (HasWidth w) (p ∷ (xs ++ b ∷ ys)) → IsIndependent w (p ∷ (xs ++ b ∷ ys)) → IsChangedBy p b c → AreBaseOfSame w (p ∷ (xs ++ b ∷ ys)) (p ∷ (xs ++ c ∷ ys))
-changed_at w p xs b c ys l i k =
-    let one = base_first w (p ∷ xs) b ys l i in
-    let two = base_back w (p ∷ []) b (xs ++ ys) one.widths one.independent in
-    let three = changed_second w p b (xs ++ ys) k.0 two.widths two.independent in
+changed_at : (w : ℕ) (p : Vector) (xs : List Vector) (b c : Vector) (ys : List Vector) → Each (HasWidth w) (p ∷ (xs ++ b ∷ ys)) → IsChangedBy p b c → AreBaseOfSame w (p ∷ (xs ++ b ∷ ys)) (p ∷ (xs ++ c ∷ ys))
+changed_at w p xs b c ys l k =
+    let one = base_first w (p ∷ xs) b ys l in
+    let two = base_back w (p ∷ []) b (xs ++ ys) one.widths in
+    let three = changed_second w p b (xs ++ ys) k.0 two.widths in
     let three' : AreBaseOfSame w (p ∷ b ∷ (xs ++ ys)) (p ∷ c ∷ (xs ++ ys)) = subst (λ (t : Vector). AreBaseOfSame w (p ∷ b ∷ (xs ++ ys)) (p ∷ t ∷ (xs ++ ys))) (sym k.1) three in
-    let four = base_first w (p ∷ []) c (xs ++ ys) three'.widths three'.independent in
-    let five = base_back w (p ∷ xs) c ys four.widths four.independent in
+    let four = base_first w (p ∷ []) c (xs ++ ys) three'.widths in
+    let five = base_back w (p ∷ xs) c ys four.widths in
     base_then w _ _ _ one (base_then w _ _ _ two (base_then w _ _ _ three' (base_then w _ _ _ four five)))
 
-pub changed_all : (w : ℕ) (p : Vector) (xs bs cs : List Vector) → Each (HasWidth w) (p ∷ (xs ++ bs)) → IsIndependent w (p ∷ (xs ++ bs)) → AllZip (IsChangedBy p) bs cs → AreBaseOfSame w (p ∷ (xs ++ bs)) (p ∷ (xs ++ cs))
-changed_all w p xs [] [] l i z = base_self w (p ∷ (xs ++ [])) l i
-changed_all w p xs [] (c ∷ cs) l i z = absurd z
-changed_all w p xs (b ∷ bs) [] l i z = absurd z
-changed_all w p xs (b ∷ bs) (c ∷ cs) l i z =
-    let here = changed_at w p xs b c bs l i z.0 in
+pub changed_all : (w : ℕ) (p : Vector) (xs bs cs : List Vector) → Each (HasWidth w) (p ∷ (xs ++ bs)) → AllZip (IsChangedBy p) bs cs → AreBaseOfSame w (p ∷ (xs ++ bs)) (p ∷ (xs ++ cs))
+changed_all w p xs [] [] l z = base_self w (p ∷ (xs ++ [])) l
+changed_all w p xs [] (c ∷ cs) l z = absurd z
+changed_all w p xs (b ∷ bs) [] l z = absurd z
+changed_all w p xs (b ∷ bs) (c ∷ cs) l z =
+    let here = changed_at w p xs b c bs l z.0 in
     let e : (ys : List Vector) → (xs ++ (c ∷ [])) ++ ys ≡ xs ++ (c ∷ ys) = λ ys. append_assoc xs (c ∷ []) ys in
     let l' : Each (HasWidth w) (p ∷ ((xs ++ (c ∷ [])) ++ bs)) = subst (λ (t : List Vector). Each (HasWidth w) (p ∷ t)) (sym (e bs)) here.widths in
-    let i' : IsIndependent w (p ∷ ((xs ++ (c ∷ [])) ++ bs)) = subst (λ (t : List Vector). IsIndependent w (p ∷ t)) (sym (e bs)) here.independent in
-    let later = changed_all w p (xs ++ (c ∷ [])) bs cs l' i' z.1 in
+    let later = changed_all w p (xs ++ (c ∷ [])) bs cs l' z.1 in
     let later' : AreBaseOfSame w (p ∷ (xs ++ (c ∷ bs))) (p ∷ ((xs ++ (c ∷ [])) ++ cs)) = subst (λ (t : List Vector). AreBaseOfSame w (p ∷ t) (p ∷ ((xs ++ (c ∷ [])) ++ cs))) (e bs) later in
     let later'' : AreBaseOfSame w (p ∷ (xs ++ (c ∷ bs))) (p ∷ (xs ++ (c ∷ cs))) = subst (λ (t : List Vector). AreBaseOfSame w (p ∷ (xs ++ (c ∷ bs))) (p ∷ t)) (e cs) later' in
     base_then w _ _ _ here later''

@@ -9,3 +9,4 @@ pub mod PlaceLemmas
 pub mod DualLemmas
 pub mod LowerLemmas
 pub mod InsideLemmas
+pub mod TermLemmas

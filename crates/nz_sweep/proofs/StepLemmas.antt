@@ -67,13 +67,13 @@ nothing_cut w h vs l i z = record {
 taken_out_cut : (w : ℕ) (h : Vector) (vs : List Valued) (p : Valued) (others : List Valued) → Each (HasWidth w) (vectors_of vs) → IsIndependent w (vectors_of vs) → Each (IsValueOf h (pos 0)) vs → Clears w vs (p ∷ others) → p.value ≢ pos 0 → AreZero others
     → IsCut (λ x. dot h x ≡ pos 0) w (vectors_of vs) (vectors_of others)
 taken_out_cut w h vs p others l i a c n z =
-    let k = c l i in
+    let k = c l in
     let v = k.1 h (pos 0) a in
     let e = none_of _ v.0 in
     let cut = λ (x : Vector). equation_cut w h [] p.vector (vectors_of others) x k.0.widths.0 k.0.widths.1 (zero_values h others v.1 z) (λ f. n (omega (arith, ints, e, f))) in
     record {
       widths = k.0.widths.1;
-      independent = independent_rest w p.vector (vectors_of others) k.0.widths k.0.independent;
+      independent = independent_rest w p.vector (vectors_of others) k.0.widths (k.0.independent i);
       same = λ x. ((λ j. (cut x).0 ((k.0.same x).0 j.0, j.1)), (λ j. let r = (cut x).1 j in ((k.0.same x).1 r.0, r.1)));
     }
 
@@ -175,26 +175,27 @@ multiplied_cut w h m g t p others pm l i z k e =
 cut_of_same : (Holds : Vector → Type 0) (w : ℕ) (vs us ts bs : List Vector) → AreBaseOfSame w vs us → IsCut Holds w us ts → AreBaseOfSame w ts bs → IsCut Holds w vs bs
 cut_of_same Holds w vs us ts bs a c b = record {
   widths = b.widths;
-  independent = b.independent;
+  independent = b.independent c.independent;
   same = λ x. ((λ k. (b.same x).0 ((c.same x).0 ((a.same x).0 k.0, k.1))), (λ k. let r = (c.same x).1 ((b.same x).1 k) in ((a.same x).1 r.0, r.1)));
 }
 
-put_back : (w : ℕ) (others : List Vector) (i : ℕ) (p : Vector) → Each (HasWidth w) (p ∷ others) → IsIndependent w (p ∷ others) → AreBaseOfSame w (p ∷ others) (insert others i p)
-put_back w others i p l i' =
+put_back : (w : ℕ) (others : List Vector) (i : ℕ) (p : Vector) → Each (HasWidth w) (p ∷ others) → AreBaseOfSame w (p ∷ others) (insert others i p)
+put_back w others i p l =
     let e = take-append-drop i others in
     subst (λ (t : List Vector). AreBaseOfSame w (p ∷ t) (insert others i p)) e
-    (base_back w (take i others) p (drop i others) (subst (λ (t : List Vector). Each (HasWidth w) (p ∷ t)) (sym e) l) (subst (λ (t : List Vector). IsIndependent w (p ∷ t)) (sym e) i'))
+    (base_back w (take i others) p (drop i others) (subst (λ (t : List Vector). Each (HasWidth w) (p ∷ t)) (sym e) l))
 
 pub congruence_step_cuts : (w : ℕ) (h : Vector) (m : ℤ) (vs us : List Vector) → Each (HasWidth w) vs → IsIndependent w vs → pos 1 ≤ℤ m → IsCongruenceStep h m vs us → IsCut (λ x. IsMultipleOf m (dot h x)) w vs us
 congruence_step_cuts w h m vs us l i p (inl s) = subst (IsCut (λ x. IsMultipleOf m (dot h x)) w vs) (sym s.1) (all_multiples_cut w h m vs l i s.0)
 congruence_step_cuts w h m vs us l i p (inr s) =
     let e = valued_vectors (IsRemainderAt h m) vs s.values s.valued in
-    let c = cleared_clears w s.values s.place s.own s.others s.cleared (subst (Each (HasWidth w)) (sym e) l) (subst (IsIndependent w) (sym e) i) in
+    let c = cleared_clears w s.values s.place s.own s.others s.cleared (subst (Each (HasWidth w)) (sym e) l) in
+    let own_independent = c.0.independent (subst (IsIndependent w) (sym e) i) in
     let v = c.1 h m (remainders_are h m vs s.values s.valued) in
     let t = s.multiplied.t in
     let k = s.multiplied.cofactor in
-    let cut = multiplied_cut w h m k.g t s.own.vector (vectors_of s.others) p c.0.widths c.0.independent (multiple_values h m s.others v.1 s.cleared.zero) (gcd_up_to s.own.value (dot h s.own.vector) m k.g v.0 k.gcd) k.quotient in
-    let back = put_back w (vectors_of s.others) s.place (scaled t s.own.vector) cut.widths cut.independent in
+    let cut = multiplied_cut w h m k.g t s.own.vector (vectors_of s.others) p c.0.widths own_independent (multiple_values h m s.others v.1 s.cleared.zero) (gcd_up_to s.own.value (dot h s.own.vector) m k.g v.0 k.gcd) k.quotient in
+    let back = put_back w (vectors_of s.others) s.place (scaled t s.own.vector) cut.widths in
     subst (IsCut (λ x. IsMultipleOf m (dot h x)) w vs) (sym s.multiplied.left)
     (cut_of_same (λ x. IsMultipleOf m (dot h x)) w vs (s.own.vector ∷ vectors_of s.others) (scaled t s.own.vector ∷ vectors_of s.others) (insert (vectors_of s.others) s.place (scaled t s.own.vector))
     (subst (λ (b : List Vector). AreBaseOfSame w b (s.own.vector ∷ vectors_of s.others)) e c.0) cut back)

@@ -2,3 +2,4 @@ pub mod Bases
 pub mod Clearing
 pub mod Cuts
 pub mod Duals
+pub mod Terms

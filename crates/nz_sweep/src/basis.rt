@@ -63,7 +63,7 @@ impl<T: Scalar> Basis<T> {
 
     /// Leaves of the lattice exactly the vectors at which the form is 0. The vectors are cleared at
     /// the form by the least value, as in Euclid's algorithm, and the one left with a value is taken
-    /// out. A refusal changes nothing.
+    /// out. A refusal changes nothing; which numbers make it Range is not stated.
     pub fn cut_equation(&mut self, alloc: Global, form: &Row<T>) -> Result<(), Num>
         requires { length form.now ≡ self.old.width }
         ensures width { self.new.width ≡ self.old.width }
@@ -84,7 +84,8 @@ impl<T: Scalar> Basis<T> {
 
     /// Leaves of the lattice exactly the vectors at which the form is a multiple of the modulus. The
     /// vectors are cleared at the remainders, and the one left with a remainder is multiplied by the
-    /// modulus divided by their greatest common divisor. A refusal changes nothing.
+    /// modulus divided by their greatest common divisor. A refusal changes nothing; which numbers
+    /// make it Range is not stated.
     pub fn cut_congruence(&mut self, alloc: Global, form: &Row<T>, modulus: T) -> Result<(), Num>
         requires form { length form.now ≡ self.old.width }
         requires modulus { pos 1 ≤ℤ T.integer modulus }
@@ -128,7 +129,7 @@ impl<T: Scalar> Basis<T> {
     }
 
     /// The coordinates of a vector of the lattice, which is their combination. None exactly where the
-    /// vector is not in the lattice.
+    /// vector is not in the lattice. Which numbers make it Range is not stated.
     pub fn coordinates(&self, alloc: Global, x: &Row<T>) -> Result<Option<Row<T>>, Num>
         requires { length x.now ≡ self.now.width }
         ensures { IfOk result (λ o. MatchOption o (¬ IsInGroup self.now.width self.now.vectors x.now) (λ c. (length c ≡ length self.now.vectors) × (combination self.now.width c self.now.vectors ≡ x.now))) }

@@ -6,6 +6,7 @@ ghost use Rattle.nz_sweep.specs.Duals.{coordinate_at, HasFraction, IsWholeAt};
 
 use crate::basis::column;
 use crate::coordinates::Coordinate;
+use crate::terms::has_value;
 use nz_vec::{Num, Row, Scalar};
 use std::alloc::Global;
 
@@ -61,7 +62,8 @@ fn whole_coordinate<T: Scalar>(coordinate: &Coordinate<T>, x: &Row<T>) -> Result
     Ok(None)
 }
 
-fn is_same<T: Scalar>(a: T, b: T) -> bool
+/// Whether two values stand for one number.
+pub(crate) fn is_same<T: Scalar>(a: T, b: T) -> bool
     ensures { IsTrue result ↔ (T.integer a ≡ T.integer b) }
 {
     a == b
@@ -85,21 +87,11 @@ pub(crate) fn is_combination<T: Scalar>(
             Ok(column) => column,
             Err(refusal) => return Err(Num::from(refusal)),
         };
-        match is_sum(factors, &column, x.at(place)) {
+        match has_value(alloc, factors, &column, x.at(place)) {
             Ok(true) => {}
             Ok(false) => return Ok(false),
             Err(refusal) => return Err(refusal),
         }
     }
     Ok(true)
-}
-
-fn is_sum<T: Scalar>(factors: &Row<T>, column: &Row<T>, entry: T) -> Result<bool, Num>
-    requires { length factors.now ≡ length column.now }
-    ensures { IfOk result (λ b. MatchBool b (dot factors.now column.now ≡ T.integer entry) (¬ (dot factors.now column.now ≡ T.integer entry))) }
-{
-    match factors.dot(column) {
-        Some(sum) => Ok(is_same(sum, entry)),
-        None => Err(Num::Range),
-    }
 }

@@ -1,8 +1,8 @@
-//! Lattices by a base: the vectors at which equations hold are the whole sums of independent vectors.
-//! Its contract: a `Basis` is seen as its width and its independent vectors; its cuts leave exactly the vectors at which an equation holds, and its calls lead to coordinates and back.
+//! Lattices by a base: the vectors at which equations and congruences hold are the whole sums of independent vectors.
+//! Its contract: a `Basis` is seen as its width and its independent vectors; a cut leaves exactly the vectors at which it holds, and a vector has coordinates exactly if it is inside.
 //! Below it stand the rows of `nz_vec` and the lemmas on bases of `nz_linear`.
 //! `nz_run` and the engines that reckon in coordinates stand above.
-//! Start reading at `specs/Bases.antt`, then `Basis`.
+//! Start reading at `specs/Bases.antt` and `specs/Cuts.antt`, then `Basis`.
 #![tactic(auto)]
 
 mod basis;
@@ -12,6 +12,7 @@ mod cutting;
 mod gathering;
 mod inside;
 mod pivots;
+mod terms;
 mod units;
 mod valued;
 
