@@ -37,7 +37,7 @@ use Rattle.nz_pointed.specs.Pointed.{paired, IsNew, IsLineOf, IsSimplexOf, IsToo
 use Rattle.nz_pointed.proofs.ListLemmas.{each_at}
 use Rattle.nz_pointed.proofs.SignLemmas.{dot-opposite, primitive_opposite}
 use Rattle.nz_rays.specs.Descriptions.{RowsAndRays, IsDescription, ListsRays}
-use Rattle.nz_rays.specs.Measures as ray
+use Rattle.nz_rays.specs.Measures.{HasLargeRay}
 use Rattle.nz_rays.proofs.PlaceLemmas.{below_next}
 use Rattle.nz_rays.proofs.StartLemmas.{simplex_description}
 use Rattle.nz_facets.specs.Rays.{AreRaysOnce}
@@ -244,15 +244,6 @@ normal_among w some rows f c n = record {
   kind = n.kind;
 }
 
-same_measure : (x : Vector) → ray.measure x ≡ measure x
-same_measure [] = refl
-same_measure (a ∷ x) = let e = same_measure x in omega (arith, e)
-
-same_pair_measure : (f x : Vector) → ray.pair_measure f x ≡ pair_measure f x
-same_pair_measure [] x = refl
-same_pair_measure (a ∷ f) [] = refl
-same_pair_measure (a ∷ f) (b ∷ x) = let e = same_pair_measure f x in omega (arith, e)
-
 -- what is large of a vector that is a normal form up to its sign
 pub large_vector : (h : ℤ) (w : ℕ) (rows : List Vector) (v : Vector) → IsNormalEitherWay w rows v → h <ℤ pos (measure v) → IsTooLarge h w rows
 large_vector h w rows v n m = elim n [
@@ -266,7 +257,7 @@ large_at h w rows row v c n m = elim n [
   | inr back ↦ inr (record { form = row; vector = opposite v; is_form = c; named = back; large = subst (λ n. h <ℤ pos n) (sym (pair_measure_opposite row v)) m })
 ]
 
-pub held_large : (h : ℤ) (w : ℕ) (rows : List Vector) (places : List ℕ) (i : ℕ) (row : Vector) (d : RowsAndRays) → Each (HasWidth w) rows → i < length rows → row ≡ get_or rows i [] → IsHeld w rows places i d → ray.HasLargeRay h row d.rays → IsTooLarge h w rows
+pub held_large : (h : ℤ) (w : ℕ) (rows : List Vector) (places : List ℕ) (i : ℕ) (row : Vector) (d : RowsAndRays) → Each (HasWidth w) rows → i < length rows → row ≡ get_or rows i [] → IsHeld w rows places i d → HasLargeRay h row d.rays → IsTooLarge h w rows
 held_large h w rows places i row d l within e k large =
     let v = large.ray in
     let wide = each_map (Contains rows) (HasWidth w) d.rows (λ g c. Each-contains (HasWidth w) rows g l c) k.only in
@@ -274,6 +265,6 @@ held_large h w rows places i row d l within e k large =
     let n = ray_normal w d.rows v wide k.pointed (subst (λ (n : ℕ). IsExtremeRay (IsInRows n d.rows) v) k.width is) in
     let normal : IsNormalEitherWay w rows v = ⊎_elim (λ a. inl (normal_among w d.rows rows v k.only a)) (λ a. inr (normal_among w d.rows rows (opposite v) k.only a)) n in
     ⊎_elim
-    (λ m. large_vector h w rows v normal (subst (λ n. h <ℤ pos n) (same_measure v) m))
-    (λ m. large_at h w rows row v (subst (Contains rows) (sym e) (contains_place rows i within)) normal (subst (λ n. h <ℤ pos n) (same_pair_measure row v) m))
+    (λ m. large_vector h w rows v normal m)
+    (λ m. large_at h w rows row v (subst (Contains rows) (sym e) (contains_place rows i within)) normal m)
     large.large
