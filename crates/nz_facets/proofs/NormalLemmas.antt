@@ -1,18 +1,17 @@
 -- The normal forms of the facet rows are normal forms of the generators, or their opposites are.
 use Rattle.std.proofs.Common.{◌≡◌, ◌≢◌, ◌⊎◌, inl, inr, ⊎_elim, ℕ, zero, suc, ◌+◌, ◌<◌, ◌≤◌, List, [], ◌∷◌, ◌++◌, length, ℤ, pos, negsuc, neg_ℤ, ◌*ℤ◌, ◌<ℤ◌, Contains, refl, sym, ap, ◌∙◌, subst, arith}
 use Rattle.std.proofs.lemmas.Int.{ints}
-use Rattle.std.proofs.lemmas.List.Elements.{Contains-append_left, Contains-append_right}
-use Rattle.std.proofs.Math.IntN.{*ℤ-zero, zero-*ℤ}
+use Rattle.std.proofs.Math.IntN.{zero-*ℤ}
 use Rattle.std.specs.Prelude.{unsigned_abs}
-use Rattle.std.specs.List.{AllByRecursion as Each, AllZip}
-use Rattle.nz_spec.specs.Vectors.{Vector, dot, plus, scaled, opposite, entry, combination, zero_vector, HasWidth, IsZero, IsPrimitive}
-use Rattle.nz_spec.specs.Sums.{IsInSpan, IsIndependent}
+use Rattle.std.specs.List.{AllByRecursion as Each}
+use Rattle.nz_spec.specs.Vectors.{Vector, dot, plus, scaled, opposite, entry, combination, zero_vector, HasWidth, IsZero}
+use Rattle.nz_spec.specs.Sums.{IsIndependent}
 use Rattle.nz_spec.specs.Order.{IsListOf}
 use Rattle.nz_spec.specs.Forms.{IsKeyColumn, IsOtherColumn, IsEquationAt, IsDualForm, IsNormalForm}
 use Rattle.nz_spec.proofs.IntLaws.{int_cases, zero_product, mul_assoc}
 use Rattle.nz_spec.proofs.VectorLaws.{dot-scaled, length-opposite}
 use Rattle.nz_spec.proofs.ListLaws.{Each-contains, Each-from_contains, contains_here, contains_there, contains_cases, contains_none}
-use Rattle.nz_spec.proofs.EquationLaws.{dot_comm, zero_on_span, entry_past, within_or_past, dot_at_lead, entry_at_lead, column_cases}
+use Rattle.nz_spec.proofs.EquationLaws.{zero_on_span, entry_past, within_or_past, dot_at_lead, entry_at_lead, column_cases}
 use Rattle.nz_linear.specs.Echelon.{unit_at, EndsAt}
 use Rattle.nz_linear.specs.Facets.{facet_rows}
 use Rattle.nz_linear.proofs.Ring.{sums, one-mul, neg-mul}
@@ -23,10 +22,10 @@ use Rattle.nz_linear.proofs.Spans.{span_of_members}
 use Rattle.nz_linear.proofs.Units.{length-unit_at, dot-unit_at, value_at_end}
 use Rattle.nz_linear.proofs.DescribedCone.{equations_exist}
 use Rattle.nz_pointed.proofs.SignLemmas.{primitive_opposite}
-use Rattle.nz_range.specs.Measures.{measure, pair_measure, SomeLarge, SomeLargeAt}
+use Rattle.nz_range.specs.Measures.{measure, pair_measure}
 use Rattle.nz_range.proofs.Fits.{abs_of_neg}
 use Rattle.nz_pointed.specs.Pointed.{IsTooLarge}
-use Rattle.nz_rays.proofs.PlaceLemmas.{Beside, zip_beside}
+use Rattle.nz_rays.proofs.PlaceLemmas.{zip_beside}
 use Rattle.nz_facets.proofs.RayLemmas.{IsNormalEitherWay, opposite-dot, entry-opposite, large_vector, large_at}
 
 -- v is the unit form of the column, or its opposite

@@ -1,20 +1,20 @@
 -- The extreme rays of pointed rows are normal forms of the rows, or their opposites are; and what is held while they are found.
-use Rattle.std.proofs.Common.{◌≡◌, ◌≢◌, ◌⊎◌, inl, inr, ⊎_elim, ℕ, zero, suc, ◌+◌, ◌<◌, ◌≤◌, List, [], ◌∷◌, ◌++◌, length, map, get_or, ℤ, pos, negsuc, neg_ℤ, ◌≤ℤ◌, ◌<ℤ◌, Contains, refl, sym, ap, ◌∙◌, subst, arith}
+use Rattle.std.proofs.Common.{◌≡◌, ◌≢◌, ◌⊎◌, inl, inr, ⊎_elim, ℕ, zero, suc, ◌+◌, ◌<◌, ◌≤◌, List, [], ◌∷◌, ◌++◌, length, get_or, ℤ, pos, neg_ℤ, ◌<ℤ◌, Contains, refl, sym, ap, ◌∙◌, subst, arith}
 use Rattle.std.proofs.lemmas.Int.{ints}
 use Rattle.std.proofs.lemmas.List.Elements.{Contains-append_left, Contains-append_right}
 use Rattle.std.specs.List.{AllByRecursion as Each, AllZip}
-use Rattle.nz_spec.specs.Vectors.{Vector, dot, opposite, entry, zero_vector, HasWidth, IsZero, IsNonzero, IsPrimitive}
+use Rattle.nz_spec.specs.Vectors.{Vector, dot, opposite, entry, HasWidth, IsZero}
 use Rattle.nz_spec.specs.Sums.{IsIndependent, HasRank}
 use Rattle.nz_spec.specs.Order.{IsListOf, Pairwise}
 use Rattle.nz_spec.specs.Monoids.{IsExtremeRay}
 use Rattle.nz_spec.specs.Covers.{vectors_at}
-use Rattle.nz_spec.specs.Forms.{IsOtherColumn, IsEquationAt, IsNormalForm, IsSupportForm}
+use Rattle.nz_spec.specs.Forms.{IsOtherColumn, IsNormalForm}
 use Rattle.nz_spec.proofs.VectorLaws.{IsZero-zero_vector, dot-zero, length-opposite}
 use Rattle.nz_spec.proofs.ListLaws.{Each-contains, Each-from_contains, contains_here, contains_there, contains_cases, contains_none}
 use Rattle.nz_spec.proofs.LinearLaws.{HasRank-unique}
 use Rattle.nz_spec.proofs.EquationLaws.{dot_comm, zero_outside_keys}
 use Rattle.nz_linear.specs.DualPairs.{Pair}
-use Rattle.nz_linear.specs.Cones.{Satisfies, IsInRows}
+use Rattle.nz_linear.specs.Cones.{IsInRows}
 use Rattle.nz_linear.specs.Extreme.{IsPointed}
 use Rattle.nz_linear.specs.Facets.{IsExtremeForm}
 use Rattle.nz_linear.specs.RayStep.{AreExtremeRays}
@@ -23,14 +23,14 @@ use Rattle.nz_linear.proofs.Signs.{sign_cases}
 use Rattle.nz_linear.proofs.Lists.{each_map, each_append, each_left, each_of_map}
 use Rattle.nz_linear.proofs.Division.{primitive_nonzero}
 use Rattle.nz_linear.proofs.Dependence.{complete_length}
-use Rattle.nz_linear.proofs.KeyColumns.{SomeEchelon, echelon, IsLeft, all_left, columns_are_other}
+use Rattle.nz_linear.proofs.KeyColumns.{echelon, IsLeft, all_left, columns_are_other}
 use Rattle.nz_linear.proofs.Rank.{rank_of_state, rank_and_left}
 use Rattle.nz_linear.proofs.Spans.{span_member}
-use Rattle.nz_linear.proofs.RayStart.{HaveSameMembers, rays_of_members}
+use Rattle.nz_linear.proofs.RayStart.{rays_of_members}
 use Rattle.nz_linear.proofs.Splitting.{zeros_of_splits}
 use Rattle.nz_linear.proofs.SupportForms.{support_of_extreme}
 use Rattle.nz_linear.proofs.FacetRows.{satisfies_valid, valid_satisfies}
-use Rattle.nz_range.specs.Measures.{measure, pair_measure, SomeLarge, SomeLargeAt}
+use Rattle.nz_range.specs.Measures.{measure, pair_measure}
 use Rattle.nz_range.proofs.Fits.{measure_opposite, pair_measure_opposite}
 use Rattle.nz_range.proofs.Causes.{each_own}
 use Rattle.nz_pointed.specs.Pointed.{paired, IsNew, IsLineOf, IsSimplexOf, IsTooLarge}

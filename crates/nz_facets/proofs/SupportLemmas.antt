@@ -1,8 +1,8 @@
 -- The rays of the facet rows, in order, are the list of the support forms; with the equations they describe the cone.
-use Rattle.std.proofs.Common.{◌≡◌, ◌≢◌, ◌⊎◌, inl, inr, ℕ, ◌<◌, List, [], ◌∷◌, ◌++◌, length, map, pos, None, sym, ap, ◌∙◌, subst}
+use Rattle.std.proofs.Common.{◌≡◌, ◌≢◌, inl, inr, ℕ, ◌<◌, List, [], ◌∷◌, ◌++◌, map, None, sym, ap, ◌∙◌, subst}
 use Rattle.std.specs.List.{AllByRecursion as Each}
 use Rattle.std.specs.List.Sorted.{IsPermutation}
-use Rattle.nz_spec.specs.Vectors.{Vector, dot, HasWidth}
+use Rattle.nz_spec.specs.Vectors.{Vector, HasWidth}
 use Rattle.nz_spec.specs.Sums.{IsInCone}
 use Rattle.nz_spec.specs.Order.{IsLexBefore, Pairwise, IsListOf, ListsOnce}
 use Rattle.nz_spec.specs.Forms.{IsOtherColumn, IsSupportForm, AreSupportForms, AreEquations, IsDescription, DescribeCone}

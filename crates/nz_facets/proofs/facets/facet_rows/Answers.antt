@@ -1,4 +1,4 @@
-use Rattle.std.proofs.Common.{◌≤◌, length, arith}
+use Rattle.std.proofs.Common.{arith}
 use Rattle.nz_facets.proofs.RowLemmas.{gens_all}
 use Rattle.nz_facets.proofs.facets.facet_rows.Goals as goal
 

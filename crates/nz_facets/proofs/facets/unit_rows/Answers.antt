@@ -1,5 +1,5 @@
-use Rattle.std.proofs.Common.{◌<◌, length, arith}
-use Rattle.nz_facets.proofs.RowLemmas.{units_more, units_all}
+use Rattle.std.proofs.Common.{arith}
+use Rattle.nz_facets.proofs.RowLemmas.{units_more}
 use Rattle.nz_facets.proofs.facets.unit_rows.Goals as goal
 
 pub loop-index-preserved : goal.loop-index-preserved

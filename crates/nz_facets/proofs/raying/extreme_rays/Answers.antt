@@ -1,4 +1,4 @@
-use Rattle.std.proofs.Common.{◌+◌, ◌<◌, ◌≤◌, length, ◌∙◌, sym, subst, arith}
+use Rattle.std.proofs.Common.{◌+◌, ◌∙◌, sym, subst, arith}
 use Rattle.nz_rays.specs.Descriptions.{RowsAndRays}
 use Rattle.nz_facets.proofs.RayLemmas.{IsHeld, simplex_whole, held_start, held_skip, held_add, held_large, held_rays}
 use Rattle.nz_facets.proofs.raying.extreme_rays.Goals as goal
