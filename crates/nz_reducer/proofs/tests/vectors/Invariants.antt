@@ -3,4 +3,4 @@ use Rattle.nz_spec.specs.Vectors.{HasWidth}
 use Rattle.nz_reducer.proofs.tests.vectors.Given as goal
 
 abbrev pub invariant-loop-entries : goal.invariant-loop-entries
-invariant-loop-entries l = Each (HasWidth 2) l.rows
+invariant-loop-entries g l = Each (HasWidth 2) l.rows
