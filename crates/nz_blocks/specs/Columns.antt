@@ -1,14 +1,21 @@
 -- Rows of numbers in columns.
-use Rattle.std.specs.Prelude.{ℕ, zero, suc, ◌-◌, max, List, [], ◌∷◌, ◌++◌, length, replicate}
+use Rattle.std.specs.Prelude.{ℕ, zero, suc, ◌-◌, max, List, [], ◌∷◌, ◌++◌, length, map, get_or, replicate}
 use Rattle.std.specs.List.{flat_map}
 use Rattle.std.specs.Fmt.{signed_decimal}
 use Rattle.nz_vec.specs.Texts.{Text}
-use Rattle.nz_spec.specs.Vectors.{Vector, entry}
+use Rattle.nz_spec.specs.Vectors.{Vector}
 
--- the length of the longest entry of the rows at a column
+-- the length of the longest entry of the rows at a column; rows need not all reach it
 abbrev pub column_width : List Vector → ℕ → ℕ
 column_width [] j = 0
-column_width (r ∷ rs) j = max (length (signed_decimal (entry r j))) (column_width rs j)
+column_width (r ∷ rs) j = max (length (get_or (map signed_decimal r) j [])) (column_width rs j)
+
+-- a width at one column, and 0 at each other
+abbrev pub width_at_only : ℕ → ℕ → ℕ → ℕ
+width_at_only zero w zero = w
+width_at_only zero w (suc j) = 0
+width_at_only (suc column) w zero = 0
+width_at_only (suc column) w (suc j) = width_at_only column w j
 
 -- spaces in front, up to this width
 abbrev pub right_aligned : ℕ → Text → Text
@@ -28,3 +35,7 @@ gap (suc place) = 32 ∷ []
 abbrev pub spaced : List Text → Text
 spaced [] = []
 spaced (c ∷ cs) = c ++ flat_map (λ d. 32 ∷ d) cs
+
+-- the entries of a row with one space between two
+abbrev pub entries : Vector → Text
+entries r = spaced (map signed_decimal r)

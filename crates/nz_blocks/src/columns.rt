@@ -1,44 +1,68 @@
 //! Rows of numbers in columns.
-ghost use Rattle.std.specs.Prelude.{◌≡◌, ℕ, ◌<◌, ◌++◌, ◌∷◌, [], length, IfOk, OnOk, slice_index};
-ghost use Rattle.std.specs.List.{AllByRecursion as Each, flat_map};
+ghost use Rattle.std.specs.Prelude.{◌≡◌, ℕ, ◌<◌, ◌≤◌, ◌++◌, ◌∷◌, [], length, max, map, get_or, IfOk, OnOk, slice_index};
+ghost use Rattle.std.specs.List.{flat_map};
 ghost use Rattle.std.specs.Fmt.{signed_decimal};
-ghost use Rattle.nz_spec.specs.Vectors.{HasWidth};
-ghost use Rattle.nz_blocks.specs.Columns.{column_width, right_aligned, gap, cells, spaced};
-ghost use Rattle.nz_blocks.specs.Output.{line, row_text};
+ghost use Rattle.nz_blocks.specs.Columns.{column_width, right_aligned, gap, cells, spaced, width_at_only};
+ghost use Rattle.nz_blocks.specs.Lines.{line};
+ghost use Rattle.nz_blocks.specs.Output.{row_text};
 
+use crate::digits::text_length;
 use itoa::Buffer;
 use nz_vec::{Bytes, NoMemory, Row, Rows};
 use std::alloc::Global;
 
-// The length of the longest entry at a column.
-fn width_of(rows: &Rows<i128>, columns: usize, column: usize) -> usize
-    requires column { column < columns }
-    requires widths { Each (HasWidth columns) rows.now }
-    ensures { result ≡ column_width rows.now column }
+// Widths of 0 behind these, up to this number of columns.
+fn grow(widths: &mut Vec<usize>, columns: usize) -> Result<(), NoMemory>
+    ensures long { OnOk result (columns ≤ length widths.new.items) }
+    ensures same { OnOk result ((j : ℕ) → slice_index widths.new.items j ≡ slice_index widths.old.items j) }
 {
-    let mut width = 0usize;
-    let mut buffer = Buffer::new();
-    for place in 0..rows.len() {
-        let entry = rows.at(place).at(column);
-        width = width.max(buffer.format(entry).len());
-    }
-    width
-}
-
-// The length of the longest entry of each column.
-fn widths_of(alloc: Global, rows: &Rows<i128>, columns: usize) -> Result<Vec<usize>, NoMemory>
-    requires widths { Each (HasWidth columns) rows.now }
-    ensures count { IfOk result (λ v. length v.items ≡ columns) }
-    ensures each { IfOk result (λ v. (j : ℕ) → j < columns → slice_index v.items j ≡ column_width rows.now j) }
-{
-    let mut widths = Vec::new(alloc);
-    for column in 0..columns {
-        let width = width_of(rows, columns, column);
-        if widths.push(width).is_err() {
+    for _column in widths.len()..columns {
+        if widths.push(0).is_err() {
             return Err(NoMemory);
         }
     }
+    Ok(())
+}
+
+// Widens a column where it is narrower.
+fn raise(widths: &mut [usize], column: usize, width: usize)
+    requires { column < length widths.old }
+    ensures { (j : ℕ) → slice_index widths.new j ≡ max (slice_index widths.old j) (width_at_only column width j) }
+{
+    widths[column] = widths[column].max(width);
+}
+
+// Widens the columns that are narrower than an entry of the row.
+fn raise_to_row(widths: &mut [usize], row: &Row<i128>)
+    requires { length row.now ≤ length widths.old }
+    ensures { (j : ℕ) → slice_index widths.new j ≡ max (slice_index widths.old j) (length (get_or (map signed_decimal row.now) j [])) }
+{
+    for column in 0..row.len() {
+        raise(widths, column, text_length(row.at(column)));
+    }
+}
+
+// The length of the longest entry of each column.
+fn widths_of(alloc: Global, rows: &Rows<i128>) -> Result<Vec<usize>, NoMemory>
+    ensures { IfOk result (λ v. (j : ℕ) → slice_index v.items j ≡ column_width rows.now j) }
+{
+    let mut widths = Vec::new(alloc);
+    for place in 0..rows.len() {
+        let row = rows.at(place);
+        grow(&mut widths, row.len())?;
+        raise_to_row(widths.as_mut_slice(), row);
+    }
     Ok(widths)
+}
+
+fn width_at(widths: &[usize], column: usize) -> usize
+    ensures { result ≡ slice_index widths.now column }
+{
+    if column < widths.len() {
+        widths[column]
+    } else {
+        0
+    }
 }
 
 // The number, right-aligned in its column.
@@ -65,26 +89,19 @@ fn put_cell(out: &mut Bytes, place: usize, width: usize, number: i128) -> Result
 
 // The row in columns of these widths, and an end of line.
 fn put_row(out: &mut Bytes, widths: &[usize], row: &Row<i128>) -> Result<(), NoMemory>
-    requires { length row.now ≡ length widths.now }
     ensures { OnOk result (out.new ≡ out.old ++ line (spaced (cells (slice_index widths.now) 0 row.now))) }
 {
     for place in 0..row.len() {
-        put_cell(out, place, widths[place], row.at(place))?;
+        put_cell(out, place, width_at(widths, place), row.at(place))?;
     }
     out.push(b'\n')
 }
 
 /// All rows, each entry right-aligned in its column.
-pub fn put_rows(
-    alloc: Global,
-    out: &mut Bytes,
-    rows: &Rows<i128>,
-    columns: usize,
-) -> Result<(), NoMemory>
-    requires widths { Each (HasWidth columns) rows.now }
+pub fn put_rows(alloc: Global, out: &mut Bytes, rows: &Rows<i128>) -> Result<(), NoMemory>
     ensures { OnOk result (out.new ≡ out.old ++ flat_map (row_text rows.now) rows.now) }
 {
-    let widths = widths_of(alloc, rows, columns)?;
+    let widths = widths_of(alloc, rows)?;
     for place in 0..rows.len() {
         put_row(out, &widths, rows.at(place))?;
     }

@@ -1,13 +1,14 @@
 //! The text of an outcome.
-ghost use Rattle.std.specs.Prelude.{◌≡◌, ◌++◌, IfOk, OnOk, decimal};
+ghost use Rattle.std.specs.Prelude.{◌≡◌, ℕ, ◌++◌, ⊤, length, map, codes, IfOk, IfSome, OnOk, decimal};
 ghost use Rattle.std.specs.List.{AllByRecursion as Each};
-ghost use Rattle.nz_spec.specs.Vectors.{HasWidth};
-ghost use Rattle.nz_blocks.specs.Output.{head, level_word, block, hilbert_heading, text_of};
+ghost use Rattle.nz_blocks.specs.Outcomes.{HasText};
+ghost use Rattle.nz_blocks.specs.Output.{head, level_word, heading_lines, block, block_if_some, from_one, simplices_block, asked_block, hilbert_heading, rays_heading, hilbert_blocks, element_blocks, ray_blocks, description_blocks, cone_blocks, cover_blocks, text_of};
 
-use crate::Outcome;
+use crate::asked_lines::put_asked_lines;
 use crate::columns::put_rows;
+use crate::{AskedList, Outcome};
 use itoa::Buffer;
-use nz_vec::{Bytes, NoMemory, Rows};
+use nz_vec::{Bytes, NoMemory, PlaceLists, Places, Row, Rows};
 use std::alloc::Global;
 
 fn put_count(out: &mut Bytes, count: usize) -> Result<(), NoMemory>
@@ -27,13 +28,23 @@ fn level_word_of(level: bool) -> &'static [u8]
     }
 }
 
-fn heading_of(level: bool) -> &'static [u8]
+fn hilbert_heading_of(level: bool) -> &'static [u8]
     ensures { result.now ≡ hilbert_heading level }
 {
     if level {
         b" Hilbert basis elements of recession monoid:".as_slice()
     } else {
         b" Hilbert basis elements:".as_slice()
+    }
+}
+
+fn rays_heading_of(level: bool) -> &'static [u8]
+    ensures { result.now ≡ rays_heading level }
+{
+    if level {
+        b" extreme rays of recession cone:".as_slice()
+    } else {
+        b" extreme rays:".as_slice()
     }
 }
 
@@ -48,21 +59,177 @@ fn put_head(out: &mut Bytes, amb: u32, level: bool) -> Result<(), NoMemory>
     out.push(b'\n')
 }
 
+fn put_heading(out: &mut Bytes, count: usize, heading: &[u8]) -> Result<(), NoMemory>
+    ensures { OnOk result (out.new ≡ out.old ++ heading_lines count heading.now) }
+{
+    out.push(b'\n')?;
+    put_count(out, count)?;
+    out.push_all(heading)?;
+    out.push(b'\n')
+}
+
 fn put_block(
     alloc: Global,
     out: &mut Bytes,
     heading: &[u8],
     rows: &Rows<i128>,
-    columns: usize,
 ) -> Result<(), NoMemory>
-    requires widths { Each (HasWidth columns) rows.now }
     ensures { OnOk result (out.new ≡ out.old ++ block heading.now rows.now) }
 {
-    out.push(b'\n')?;
-    put_count(out, rows.len())?;
-    out.push_all(heading)?;
-    out.push(b'\n')?;
-    put_rows(alloc, out, rows, columns)
+    put_heading(out, rows.len(), heading)?;
+    put_rows(alloc, out, rows)
+}
+
+fn put_block_if_some(
+    alloc: Global,
+    out: &mut Bytes,
+    heading: &[u8],
+    rows: &Option<Rows<i128>>,
+) -> Result<(), NoMemory>
+    ensures { OnOk result (out.new ≡ out.old ++ block_if_some heading.now rows.now) }
+{
+    match rows {
+        Some(rows) => put_block(alloc, out, heading, rows),
+        None => Ok(()),
+    }
+}
+
+// The places counted from 1.
+fn from_one_of(alloc: Global, places: &Places) -> Result<Row<i128>, NoMemory>
+    ensures { IfOk result (λ r. r ≡ from_one places.now) }
+{
+    let mut entries = Vec::new(alloc);
+    for index in 0..places.len() {
+        if entries.push(places.at(index) as i128 + 1).is_err() {
+            return Err(NoMemory);
+        }
+    }
+    Ok(Row::from_vec(entries))
+}
+
+fn simplex_rows(alloc: Global, simplices: &PlaceLists) -> Result<Rows<i128>, NoMemory>
+    ensures { IfOk result (λ rows. rows ≡ map from_one simplices.now) }
+{
+    let mut rows = Rows::new(alloc);
+    for index in 0..simplices.len() {
+        rows.push(from_one_of(alloc, simplices.at(index))?)?;
+    }
+    Ok(rows)
+}
+
+fn put_simplices(
+    alloc: Global,
+    out: &mut Bytes,
+    simplices: &Option<PlaceLists>,
+) -> Result<(), NoMemory>
+    ensures { OnOk result (out.new ≡ out.old ++ simplices_block simplices.now) }
+{
+    match simplices {
+        Some(simplices) => {
+            let rows = simplex_rows(alloc, simplices)?;
+            put_block(alloc, out, b" simplices:".as_slice(), &rows)
+        }
+        None => Ok(()),
+    }
+}
+
+fn put_asked(
+    alloc: Global,
+    out: &mut Bytes,
+    level: bool,
+    asked: &Option<AskedList>,
+) -> Result<(), NoMemory>
+    requires { IfSome asked.now (Each (λ a. HasText level a.0 a.1)) }
+    ensures { OnOk result (out.new ≡ out.old ++ asked_block level asked.now) }
+{
+    match asked {
+        Some(asked) => {
+            put_heading(out, asked.len(), b" asked vectors:".as_slice())?;
+            put_asked_lines(alloc, out, level, asked)
+        }
+        None => Ok(()),
+    }
+}
+
+// The Hilbert basis, and its elements of degree 1.
+fn put_hilbert_blocks(alloc: Global, out: &mut Bytes, outcome: &Outcome) -> Result<(), NoMemory>
+    ensures { OnOk result (out.new ≡ out.old ++ hilbert_blocks outcome.now) }
+{
+    put_block_if_some(
+        alloc,
+        out,
+        hilbert_heading_of(outcome.level),
+        &outcome.hilbert,
+    )?;
+    put_block_if_some(
+        alloc,
+        out,
+        b" degree 1 elements:".as_slice(),
+        &outcome.degree_one,
+    )
+}
+
+fn put_element_blocks(alloc: Global, out: &mut Bytes, outcome: &Outcome) -> Result<(), NoMemory>
+    ensures { OnOk result (out.new ≡ out.old ++ element_blocks outcome.now) }
+{
+    put_block_if_some(
+        alloc,
+        out,
+        b" module generators:".as_slice(),
+        &outcome.modules,
+    )?;
+    put_hilbert_blocks(alloc, out, outcome)
+}
+
+// The extreme generators by their levels.
+fn put_ray_blocks(alloc: Global, out: &mut Bytes, outcome: &Outcome) -> Result<(), NoMemory>
+    ensures { OnOk result (out.new ≡ out.old ++ ray_blocks outcome.now) }
+{
+    put_block_if_some(
+        alloc,
+        out,
+        b" vertices of polyhedron:".as_slice(),
+        &outcome.vertices,
+    )?;
+    put_block_if_some(alloc, out, rays_heading_of(outcome.level), &outcome.rays)
+}
+
+fn put_equations(alloc: Global, out: &mut Bytes, rows: &Option<Rows<i128>>) -> Result<(), NoMemory>
+    ensures { OnOk result (out.new ≡ out.old ++ block_if_some (codes " equations:") rows.now) }
+{
+    put_block_if_some(alloc, out, b" equations:".as_slice(), rows)
+}
+
+// The support description.
+fn put_description_blocks(alloc: Global, out: &mut Bytes, outcome: &Outcome) -> Result<(), NoMemory>
+    ensures { OnOk result (out.new ≡ out.old ++ description_blocks outcome.now) }
+{
+    put_block_if_some(
+        alloc,
+        out,
+        b" support hyperplanes:".as_slice(),
+        &outcome.support,
+    )?;
+    put_equations(alloc, out, &outcome.equations)
+}
+
+fn put_cone_blocks(alloc: Global, out: &mut Bytes, outcome: &Outcome) -> Result<(), NoMemory>
+    ensures { OnOk result (out.new ≡ out.old ++ cone_blocks outcome.now) }
+{
+    put_ray_blocks(alloc, out, outcome)?;
+    put_description_blocks(alloc, out, outcome)
+}
+
+fn put_cover_blocks(alloc: Global, out: &mut Bytes, outcome: &Outcome) -> Result<(), NoMemory>
+    ensures { OnOk result (out.new ≡ out.old ++ cover_blocks outcome.now) }
+{
+    put_block_if_some(
+        alloc,
+        out,
+        b" extreme generators:".as_slice(),
+        &outcome.generators,
+    )?;
+    put_simplices(alloc, out, &outcome.simplices)
 }
 
 /// The text that a run stores for this outcome.
@@ -71,14 +238,9 @@ pub fn blocks(alloc: Global, outcome: &Outcome) -> Result<Bytes, NoMemory>
 {
     let mut out = Bytes::new(alloc);
     put_head(&mut out, outcome.amb, outcome.level)?;
-    let columns = if outcome.level {
-        outcome.amb as usize + 1
-    } else {
-        outcome.amb as usize
-    };
-    match &outcome.hilbert {
-        Some(rows) => put_block(alloc, &mut out, heading_of(outcome.level), rows, columns)?,
-        None => {}
-    }
+    put_element_blocks(alloc, &mut out, outcome)?;
+    put_cone_blocks(alloc, &mut out, outcome)?;
+    put_cover_blocks(alloc, &mut out, outcome)?;
+    put_asked(alloc, &mut out, outcome.level, &outcome.asked)?;
     Ok(out)
 }

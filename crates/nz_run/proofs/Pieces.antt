@@ -5,7 +5,7 @@ use Rattle.nz_vec.specs.Texts.{Text}
 use Rattle.nz_edge.specs.Folders.{BothTold}
 use Rattle.nz_edge.specs.Answers.{PutAll}
 use Rattle.std.specs.Prelude.{codes, decimal}
-use Rattle.nz_blocks.specs.Output.{line}
+use Rattle.nz_blocks.specs.Lines.{line}
 use Rattle.nz_run.specs.Statuses.{place_line}
 
 -- the first piece was taken whole, and then the second, or some first bytes of it

@@ -9,6 +9,7 @@ use Rattle.nz_input.specs.Refusals.{IsRefusedAt}
 use Rattle.nz_system.specs.Meaning.{system_of, IsMeaning}
 use Rattle.nz_system.specs.declared.refusal.SystemRefusal.TheVariants as refusal
 use Rattle.nz_box.specs.Sides.{IsCrowded}
+use Rattle.nz_blocks.specs.Outcomes.{OutcomeData}
 use Rattle.nz_blocks.specs.Output.{text_of}
 use Rattle.nz_edge.specs.Folders.{Files, SameFiles, SameOthers, Stores}
 use Rattle.nz_edge.specs.Counts.{IsQuiet, Rose}
@@ -40,12 +41,29 @@ pub record IsReadAs (input : Text) (file : FileData) : Type 0 where
   pub meaning : HasMeaning file
   pub built : IsBuilt file
 
+-- the outcome without a level of which the Hilbert basis alone is wanted
+abbrev pub hilbert_alone : ℕ → List Vector → OutcomeData
+hilbert_alone amb list = record {
+  amb = amb;
+  level = false;
+  modules = None;
+  hilbert = Some list;
+  degree_one = None;
+  vertices = None;
+  rays = None;
+  support = None;
+  equations = None;
+  generators = None;
+  simplices = None;
+  asked = None;
+}
+
 -- the output is the text of the list of exactly the irreducible elements of the monoid that the file defines, each once, in order
 pub record IsAnswered (file : FileData) (output : Text) : Type 0 where
   pub list : List Vector
   pub not_crowded : ¬ IsCrowded (system_of file)
   pub basis : IsHilbertBasis (system_of file) list
-  pub same : output ≡ text_of (record { amb = file.amb; level = false; hilbert = Some list })
+  pub same : output ≡ text_of (hilbert_alone file.amb list)
 
 -- the input is a text of a file, and the output the text of the list of exactly the irreducible elements of the monoid that it defines
 pub record IsSolved (input output : Text) : Type 0 where

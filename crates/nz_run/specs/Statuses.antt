@@ -6,7 +6,7 @@ use Rattle.nz_input.specs.declared.refusal.Fault.TheVariants as fault
 use Rattle.nz_input.specs.Words.{keyword, goal_word}
 use Rattle.nz_system.specs.declared.refusal.MeaningFault.{MeaningFault}
 use Rattle.nz_system.specs.declared.refusal.MeaningFault.TheVariants as rule
-use Rattle.nz_blocks.specs.Output.{line}
+use Rattle.nz_blocks.specs.Lines.{line}
 use Rattle.nz_run.specs.declared.built.Keyword.{Keyword}
 use Rattle.nz_run.specs.declared.built.Keyword.TheVariants as word
 use Rattle.nz_run.specs.declared.status.Status.{Status}

@@ -61,7 +61,16 @@ fn answer(alloc: Global, file: &File) -> Result<Bytes, Status>
     let outcome = Outcome {
         amb: file.amb,
         level: false,
+        modules: None,
         hilbert: Some(list),
+        degree_one: None,
+        vertices: None,
+        rays: None,
+        support: None,
+        equations: None,
+        generators: None,
+        simplices: None,
+        asked: None,
     };
     match blocks(alloc, &outcome) {
         Ok(text) => Ok(text),

@@ -3,7 +3,7 @@ ghost use Rattle.std.specs.Prelude.{◌≡◌, ◌≤◌, ◌++◌, IsFalse, cod
 ghost use Rattle.nz_edge.specs.Counts.{Rose};
 ghost use Rattle.nz_edge.specs.Folders.{BothTold};
 ghost use Rattle.nz_edge.specs.Answers.{PutAll};
-ghost use Rattle.nz_blocks.specs.Output.{line};
+ghost use Rattle.nz_blocks.specs.Lines.{line};
 ghost use Rattle.nz_run.specs.Statuses.{fault_name, rule_name, place_line, status_line};
 
 use crate::Status;

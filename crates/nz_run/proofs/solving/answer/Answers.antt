@@ -1,4 +1,5 @@
-use Rattle.std.proofs.Common.{List, sym, subst, ap}
+use Rattle.std.proofs.Common.{List, refl, sym, subst, ap}
+use Rattle.std.proofs.lemmas.Bool.{false≢true}
 use Rattle.std.specs.Prelude.{Err}
 use Rattle.std.specs.List.{AllByRecursion as Each}
 use Rattle.nz_spec.specs.Vectors.{Vector}
@@ -27,7 +28,25 @@ irreducibles-requires-clause-rows c =
 
 pub invariant_of-outcome : goal.invariant_of-outcome
 invariant_of-outcome c =
-    record { at_least = c.file.invariant.low; at_most = c.file.invariant.high; widths = list_widths c.file.inside.amb c.in-Ok.rows c.in-Ok-irreducibles.list c.in-Ok-irreducibles.ensures.list }
+    record {
+      at_least = c.file.invariant.low;
+      at_most = c.file.invariant.high;
+      modules = tt;
+      hilbert = list_widths c.file.inside.amb c.in-Ok.rows c.in-Ok-irreducibles.list c.in-Ok-irreducibles.ensures.list;
+      degree_one = tt;
+      vertices = tt;
+      rays = tt;
+      support = tt;
+      equations = tt;
+      generators = tt;
+      simplices = tt;
+      asked = tt;
+      described = refl;
+      covered = refl;
+      bounded = refl;
+      levelled = λ h. absurd (false≢true h);
+      parted = λ h. absurd (false≢true h);
+    }
 
 pub returns-in-Ok-blocks-clause-ok : goal.returns-in-Ok-blocks-clause-ok
 returns-in-Ok-blocks-clause-ok c =

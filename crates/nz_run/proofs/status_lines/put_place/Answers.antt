@@ -1,6 +1,6 @@
 use Rattle.std.proofs.Common.{◌++◌, false}
 use Rattle.std.specs.Prelude.{codes, decimal}
-use Rattle.nz_blocks.specs.Output.{line}
+use Rattle.nz_blocks.specs.Lines.{line}
 use Rattle.nz_run.specs.Statuses.{place_line}
 use Rattle.nz_run.proofs.Pieces.{then_more, stopped, put_same, place_text}
 use Rattle.nz_run.proofs.status_lines.put_place.Goals as goal

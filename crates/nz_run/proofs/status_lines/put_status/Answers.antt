@@ -1,7 +1,7 @@
 use Rattle.std.proofs.Common.{◌≡◌, ◌++◌, ap, sym, ◌∙◌, rules}
 use Rattle.std.specs.Prelude.{codes}
 use Rattle.nz_vec.specs.Texts.{Text}
-use Rattle.nz_blocks.specs.Output.{line}
+use Rattle.nz_blocks.specs.Lines.{line}
 use Rattle.nz_run.specs.Statuses.{rule_name, place_line, status_line}
 use Rattle.nz_run.specs.declared.status.Status.TheVariants.{Usage, Absent, ReadFault, TooLong, WriteFault, NoMemory, Crowded}
 use Rattle.nz_run.proofs.Pieces.{put_same}

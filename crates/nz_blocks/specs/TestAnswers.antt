@@ -1,0 +1,13 @@
+-- What is answered of two numbers by the numbers of at least 1: the cases of the tests.
+use Rattle.std.specs.Prelude.{pos, negsuc, [], ◌∷◌, Some}
+use Rattle.nz_vec.specs.declared.constraints.Constraint.TheVariants.{NotNegative}
+use Rattle.nz_member.specs.declared.reply.Reply.TheVariants.{Parts, Outside}
+use Rattle.nz_blocks.specs.Outcomes.{Asked}
+
+-- 3 is 2 times the element and the module generator
+abbrev pub three : Asked
+three = (pos 3 ∷ [], Parts (Some 0) (pos 2 ∷ []))
+
+-- 0 fails to be at least 1
+abbrev pub zero_fails : Asked
+zero_fails = (pos 0 ∷ [], Outside (NotNegative (pos 1 ∷ negsuc 0 ∷ [])))
