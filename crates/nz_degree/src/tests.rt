@@ -85,8 +85,19 @@ fn grades<T: Scalar>(rt: &impl Abort, alloc: Global) -> Result<(), Fail> {
     Ok(())
 }
 
+// The plane with the grading (1, -1): of its two elements (0, 1) alone is not positive.
+fn names_the_fault<T: Scalar>(rt: &impl Abort, alloc: Global) -> Result<(), Fail> {
+    let one = with::<T>(alloc, Rows::new(alloc), [1, 0])?;
+    let plane = with(alloc, one, [0, 1])?;
+    let grading = row::<T>(alloc, [1, -1])?;
+    assert!(rt; check(&grading, &plane) == Ok(Positivity::NotPositive(1)));
+    Ok(())
+}
+
 #[test]
 fn by_degree(rt: HostRuntime) -> Result<(), Fail> {
     grades::<i64>(&rt, rt.alloc())?;
-    grades::<i128>(&rt, rt.alloc())
+    grades::<i128>(&rt, rt.alloc())?;
+    names_the_fault::<i64>(&rt, rt.alloc())?;
+    names_the_fault::<i128>(&rt, rt.alloc())
 }
