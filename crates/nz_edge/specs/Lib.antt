@@ -6,3 +6,4 @@ pub mod Calls
 pub mod Memory
 pub mod Places
 pub mod MemWatches
+pub mod Telling
