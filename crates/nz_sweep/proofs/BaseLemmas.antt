@@ -10,6 +10,7 @@ use Rattle.nz_linear.specs.Elimination.{unit_pairs, shifted}
 use Rattle.nz_linear.proofs.EliminationRun.{unit_dual}
 use Rattle.nz_linear.proofs.DualPairs.{dual_independent}
 use Rattle.nz_linear.proofs.Units.{entry_sum, entry-zero_vector}
+use Rattle.nz_sweep.specs.Duals.{Coordinate}
 use Rattle.nz_sweep.specs.Bases.{column_of, IsBase}
 
 -- the unit vectors are a base
@@ -25,8 +26,8 @@ widths_of : (w : ℕ) (ps : List Pair) → Each (HasWidths w) ps → Each (HasWi
 widths_of w [] h = tt
 widths_of w (p ∷ ps) h = (h.0.vector_width, widths_of w ps h.1)
 
-pub units_are_base : (w : ℕ) (vs : List Vector) → vs ≡ unit_vectors w → IsBase (record { width = w; vectors = vs })
-units_are_base w vs e =
+pub units_are_base : (w : ℕ) (vs : List Vector) (cs : List Coordinate) → vs ≡ unit_vectors w → IsBase (record { width = w; vectors = vs; coordinates = cs })
+units_are_base w vs cs e =
     let same : map (λ (p : Pair). p.vector) (unit_pairs w) ≡ vs = unit_vectors_of_pairs w ∙ sym e in
     record {
       widths = subst (Each (HasWidth w)) same (widths_of w (unit_pairs w) (unit_dual w).widths);

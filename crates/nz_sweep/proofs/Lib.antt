@@ -9,4 +9,6 @@ pub mod PlaceLemmas
 pub mod DualLemmas
 pub mod LowerLemmas
 pub mod InsideLemmas
+pub mod NumberLemmas
+pub mod DivisionCauses
 pub mod TermLemmas

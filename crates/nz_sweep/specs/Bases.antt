@@ -4,11 +4,13 @@ use Rattle.std.specs.List.{AllByRecursion as Each}
 use Rattle.nz_spec.specs.Vectors.{Vector, entry, HasWidth}
 use Rattle.nz_spec.specs.Sums.{IsIndependent}
 use Rattle.nz_vec.specs.Sums.{SumsFit}
+use Rattle.nz_sweep.specs.Duals.{Coordinate}
 
--- a width and vectors; their lattice is the group that the vectors generate
+-- a width, vectors, whose lattice is the group that they generate, and the coordinates of that lattice
 pub record Base : Type 0 where
   pub width : ℕ
   pub vectors : List Vector
+  pub coordinates : List Coordinate
 
 -- the vectors have that width and are independent
 pub record IsBase (b : Base) : Type 0 where

@@ -5,6 +5,7 @@ ghost use Rattle.nz_spec.specs.Sums.{IsInGroup};
 ghost use Rattle.nz_linear.specs.Coordinates.{in_coordinates};
 ghost use Rattle.nz_sweep.specs.Bases.{IsBase, column_of, CombinationSumsFit, ValueSumsFit};
 ghost use Rattle.nz_sweep.specs.Cuts.{IsCut, IsEquationStep, IsCongruenceStep};
+ghost use Rattle.nz_sweep.specs.Numbers.{SomeNumberLarge, IsCoordinateNumber};
 
 use crate::coordinates::{Coordinate, unit_coordinates};
 use crate::cutting::{multiples, zeros};
@@ -29,9 +30,9 @@ impl<T: Scalar> Model for Basis<T> {
 
     ghost Value = { Base };
 
-    ghost view = { λ b. record { width = b.width; vectors = b.base.items } };
+    ghost view = { λ b. record { width = b.width; vectors = b.base.items; coordinates = b.coordinates.items } };
 
-    ghost invariant = { λ b. IsBase (record { width = b.width; vectors = b.base.items }) × AreDual b.width b.base.items b.coordinates.items };
+    ghost invariant = { λ b. IsBase (record { width = b.width; vectors = b.base.items; coordinates = b.coordinates.items }) × AreDual b.width b.base.items b.coordinates.items };
 }
 
 impl<T: Scalar> Basis<T> {
@@ -129,10 +130,11 @@ impl<T: Scalar> Basis<T> {
     }
 
     /// The coordinates of a vector of the lattice, which is their combination. None exactly where the
-    /// vector is not in the lattice. Which numbers make it Range is not stated.
+    /// vector is not in the lattice. Range comes only where an entry of the vector or of the base, or
+    /// the sum of the sizes of the products of a coordinate form and the vector, is above `HALF`.
     pub fn coordinates(&self, alloc: Global, x: &Row<T>) -> Result<Option<Row<T>>, Num>
         requires { length x.now ≡ self.now.width }
-        ensures { IfOk result (λ o. MatchOption o (¬ IsInGroup self.now.width self.now.vectors x.now) (λ c. (length c ≡ length self.now.vectors) × (combination self.now.width c self.now.vectors ≡ x.now))) }
+        ensures { MatchResult result (λ o. MatchOption o (¬ IsInGroup self.now.width self.now.vectors x.now) (λ c. (length c ≡ length self.now.vectors) × (combination self.now.width c self.now.vectors ≡ x.now))) (λ e. e ≡ Num.Range → SomeNumberLarge T.HALF (IsCoordinateNumber self.now x.now)) }
     {
         let whole = match whole_coordinates(alloc, self.width, self.coordinates.as_slice(), x) {
             Ok(whole) => whole,

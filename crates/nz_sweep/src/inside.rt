@@ -1,8 +1,10 @@
 // Whether a vector is inside a lattice: its coordinates are whole, and it is their combination.
-ghost use Rattle.std.specs.Prelude.{◌≡◌, ◌↔◌, ℕ, ◌<◌, ◌<ℤ◌, ◌*ℤ◌, pos, length, IfOk, IsTrue, MatchBool, MatchOption};
+ghost use Rattle.std.specs.Prelude.{◌≡◌, ◌↔◌, ◌⊎◌, ℕ, ◌<◌, ◌<ℤ◌, ◌*ℤ◌, pos, length, Contains, IsTrue, MatchBool, MatchOption, MatchResult};
 ghost use Rattle.std.specs.List.{AllByRecursion as Each, AllZip};
 ghost use Rattle.nz_spec.specs.Vectors.{combination, dot, HasWidth, IsMultipleOf};
+ghost use Rattle.nz_range.specs.Measures.{pair_measure};
 ghost use Rattle.nz_sweep.specs.Duals.{coordinate_at, HasFraction, IsWholeAt};
+ghost use Rattle.nz_sweep.specs.Numbers.{SomeNumberLarge, IsMeasureAt, IsEntryOf};
 
 use crate::basis::column;
 use crate::coordinates::Coordinate;
@@ -20,7 +22,7 @@ pub(crate) fn whole_coordinates<T: Scalar>(
     requires x { length x.now ≡ width }
     requires widths { (i : ℕ) → i < length coordinates.now → HasWidth width (coordinate_at coordinates.now i).form }
     requires positive { (i : ℕ) → i < length coordinates.now → pos 0 <ℤ (coordinate_at coordinates.now i).divisor }
-    ensures { IfOk result (λ o. MatchOption o (HasFraction x.now coordinates.now) (λ c. AllZip (IsWholeAt x.now) coordinates.now c)) }
+    ensures { MatchResult result (λ o. MatchOption o (HasFraction x.now coordinates.now) (λ c. AllZip (IsWholeAt x.now) coordinates.now c)) (λ e. e ≡ Num.Range → SomeNumberLarge T.HALF (IsMeasureAt x.now coordinates.now)) }
 {
     let mut entries = match Vec::with_capacity(alloc, coordinates.len()) {
         Ok(entries) => entries,
@@ -42,7 +44,7 @@ pub(crate) fn whole_coordinates<T: Scalar>(
 fn whole_coordinate<T: Scalar>(coordinate: &Coordinate<T>, x: &Row<T>) -> Result<Option<T>, Num>
     requires width { length coordinate.now.form ≡ length x.now }
     requires positive { pos 0 <ℤ coordinate.now.divisor }
-    ensures { IfOk result (λ o. MatchOption o (¬ IsMultipleOf coordinate.now.divisor (dot coordinate.now.form x.now)) (λ q. IsWholeAt x.now coordinate.now (T.integer q))) }
+    ensures { MatchResult result (λ o. MatchOption o (¬ IsMultipleOf coordinate.now.divisor (dot coordinate.now.form x.now)) (λ q. IsWholeAt x.now coordinate.now (T.integer q))) (λ e. e ≡ Num.Range → T.HALF <ℤ pos (pair_measure coordinate.now.form x.now)) }
 {
     let value = match coordinate.form.dot(x) {
         Some(value) => value,
@@ -50,7 +52,7 @@ fn whole_coordinate<T: Scalar>(coordinate: &Coordinate<T>, x: &Row<T>) -> Result
     };
     let quotient = match value.floor_div(coordinate.divisor) {
         Some(quotient) => quotient,
-        None => return Err(Num::Range),
+        None => unreachable!(),
     };
     let product = match quotient.try_mul(coordinate.divisor) {
         Some(product) => product,
@@ -80,7 +82,7 @@ pub(crate) fn is_combination<T: Scalar>(
     requires factors { length factors.now ≡ length base.now }
     requires x { length x.now ≡ width }
     requires widths { Each (HasWidth width) base.now }
-    ensures { IfOk result (λ b. MatchBool b (combination width factors.now base.now ≡ x.now) (¬ (combination width factors.now base.now ≡ x.now))) }
+    ensures { MatchResult result (λ b. MatchBool b (combination width factors.now base.now ≡ x.now) (¬ (combination width factors.now base.now ≡ x.now))) (λ e. e ≡ Num.Range → SomeNumberLarge T.HALF (λ n. Contains x.now n ⊎ Contains factors.now n ⊎ IsEntryOf base.now n)) }
 {
     for place in 0..width {
         let column = match column(alloc, base, place, width) {

@@ -1,13 +1,14 @@
 // Sums whose terms are taken in the order that keeps them small: while the sum is above 0 a term
 // below 0 is added, if one is left, and the other way round. No sum on the way is then larger than
 // the whole or the largest term, so the whole is reached wherever it is a value.
-ghost use Rattle.std.specs.Prelude.{◌≡◌, ◌+ℤ◌, ◌*ℤ◌, ◌<ℤ◌, ◌≤ℤ◌, ◌↔◌, [], pos, map, length, IfOk, IsTrue, MatchOption, MatchBool};
+ghost use Rattle.std.specs.Prelude.{◌≡◌, ◌+ℤ◌, ◌*ℤ◌, ◌<ℤ◌, ◌≤ℤ◌, ◌↔◌, ◌⊎◌, [], pos, map, length, Contains, IfOk, IfErr, IsTrue, MatchOption, MatchBool, MatchResult};
 ghost use Rattle.nz_spec.specs.Vectors.{dot};
 ghost use Rattle.nz_scalar.specs.Exact.{Gives};
+ghost use Rattle.nz_sweep.specs.Numbers.{SomeNumberLarge};
 ghost use Rattle.nz_sweep.specs.Terms.{total, AreTerms, TakesOne};
 
 use crate::inside::is_same;
-use nz_vec::{Num, Row, Scalar};
+use nz_vec::{NoMemory, Num, Row, Scalar};
 use std::alloc::Global;
 
 // Terms of at least 0, and terms of at most 0.
@@ -25,7 +26,7 @@ pub(crate) fn has_value<T: Scalar>(
     value: T,
 ) -> Result<bool, Num>
     requires { length form.now ≡ length x.now }
-    ensures { IfOk result (λ b. MatchBool b (dot form.now x.now ≡ T.integer value) (¬ (dot form.now x.now ≡ T.integer value))) }
+    ensures { MatchResult result (λ b. MatchBool b (dot form.now x.now ≡ T.integer value) (¬ (dot form.now x.now ≡ T.integer value))) (λ e. e ≡ Num.Range → SomeNumberLarge T.HALF (λ n. (n ≡ T.integer value) ⊎ Contains form.now n ⊎ Contains x.now n)) }
 {
     // a number that stands in a row is a value of the type, but only a call can tell
     let value = match value.try_sub(T::of_i64(0)) {
@@ -47,6 +48,7 @@ fn products<T: Scalar>(alloc: Global, form: &Row<T>, x: &Row<T>) -> Result<Terms
     requires { length form.now ≡ length x.now }
     ensures terms { IfOk result (λ t. AreTerms T.fits (map T.integer t.above.items) (map T.integer t.below.items)) }
     ensures sum { IfOk result (λ t. total (map T.integer t.above.items) +ℤ total (map T.integer t.below.items) ≡ dot form.now x.now) }
+    ensures cause { IfErr result (λ e. e ≡ Num.Range → SomeNumberLarge T.HALF (λ n. Contains form.now n ⊎ Contains x.now n)) }
 {
     let mut terms = Terms {
         above: Vec::new(alloc),
@@ -59,13 +61,13 @@ fn products<T: Scalar>(alloc: Global, form: &Row<T>, x: &Row<T>) -> Result<Terms
         };
         terms = match with_term(terms, product) {
             Ok(terms) => terms,
-            Err(refusal) => return Err(refusal),
+            Err(refusal) => return Err(Num::from(refusal)),
         };
     }
     Ok(terms)
 }
 
-fn with_term<T: Scalar>(terms: Terms<T>, term: T) -> Result<Terms<T>, Num>
+fn with_term<T: Scalar>(terms: Terms<T>, term: T) -> Result<Terms<T>, NoMemory>
     requires terms { AreTerms T.fits (map T.integer terms.above.items) (map T.integer terms.below.items) }
     requires fits { T.fits (T.integer term) }
     ensures terms { IfOk result (λ t. AreTerms T.fits (map T.integer t.above.items) (map T.integer t.below.items)) }
@@ -78,12 +80,12 @@ fn with_term<T: Scalar>(terms: Terms<T>, term: T) -> Result<Terms<T>, Num>
     if is_below_zero(term) {
         return match below.push(term) {
             Ok(()) => Ok(Terms { above, below }),
-            Err(_) => Err(Num::NoMemory),
+            Err(_) => Err(NoMemory),
         };
     }
     match above.push(term) {
         Ok(()) => Ok(Terms { above, below }),
-        Err(_) => Err(Num::NoMemory),
+        Err(_) => Err(NoMemory),
     }
 }
 

@@ -4,6 +4,7 @@ use Rattle.nz_spec.specs.Vectors.{Vector, combination, dot, entry}
 use Rattle.nz_spec.proofs.SumLaws.{length-combination}
 use Rattle.nz_sweep.proofs.BaseLemmas.{entry-combination}
 use Rattle.nz_sweep.proofs.InsideLemmas.{same_entries}
+use Rattle.nz_sweep.proofs.NumberLemmas.{column_large}
 use Rattle.nz_sweep.proofs.inside.is_combination.Goals as goal
 
 pub returns-in-Ok-false : goal.returns-in-Ok-false
@@ -28,3 +29,6 @@ pub returns : goal.returns
 returns g c =
     let n = length-combination c.args.width c.args.factors.now c.args.base.now c.requires.widths in
     same_entries (combination c.args.width c.args.factors.now c.args.base.now) c.args.x.now (n ∙ sym c.requires.x) (λ k l. c.loop-place.invariant k (omega (arith, l, n, c.loop-place-test.false)))
+
+pub returns-in-Err-has_value : goal.returns-in-Err-has_value
+returns-in-Err-has_value g c = λ e. column_large _ c.args.width c.loop-place.place c.args.base.now c.args.x.now c.args.factors.now c.in-Ok.column (g.T.Scalar.integer c.at.result) c.requires.widths c.requires.x c.loop-place-test.true c.at.ensures c.in-Ok.ensures (c.in-Err-has_value.ensures e)

@@ -2,8 +2,18 @@ use Rattle.std.proofs.Common.{◌<ℤ◌, ℤ, pos, sym, subst}
 use Rattle.std.proofs.lemmas.Bool.{false≢true}
 use Rattle.nz_spec.specs.Vectors.{dot, IsMultipleOf}
 use Rattle.nz_sweep.specs.Duals.{Coordinate}
+use Rattle.nz_range.specs.Measures.{pair_measure}
+use Rattle.nz_range.proofs.Causes.{value_cause}
 use Rattle.nz_sweep.proofs.InsideLemmas.{no_fraction, no_product, value_fits}
 use Rattle.nz_sweep.proofs.inside.whole_coordinate.Goals as goal
+
+pub returns-in-None : goal.returns-in-None
+returns-in-None g c = λ _. subst (λ (t : Coordinate). g.T.Scalar.HALF <ℤ pos (pair_measure t.form c.args.x.now)) c.coordinate.view_is (value_cause _ _ g.met.T.Scalar.room c.coordinate.inside.form c.args.x.now c.in-None.ensures)
+
+pub unreachable-requires : goal.unreachable-requires
+unreachable-requires g c =
+    let p : pos 0 <ℤ g.T.Scalar.integer c.coordinate.inside.divisor = subst (λ (t : Coordinate). pos 0 <ℤ t.divisor) (sym c.coordinate.view_is) c.requires.positive in
+    false≢true (c.in-None-floor_div.ensures.some p)
 
 pub returns-in-None-try_mul : goal.returns-in-None-try_mul
 returns-in-None-try_mul g c =

@@ -2,6 +2,7 @@ use Rattle.std.proofs.Common.{◌≡◌, ◌∙◌, ◌*ℤ◌, ◌+ℤ◌, map,
 use Rattle.std.proofs.lemmas.List.{take_all}
 use Rattle.nz_spec.specs.Vectors.{Vector, dot, entry}
 use Rattle.nz_sweep.proofs.TermLemmas.{terms_none, dot_more}
+use Rattle.nz_sweep.proofs.NumberLemmas.{term_large}
 use Rattle.nz_sweep.proofs.terms.products.Goals as goal
 
 pub loop-place-init : goal.loop-place-init
@@ -27,4 +28,10 @@ returns g c =
     record {
       terms = c.loop-place.invariant.0;
       sum = c.loop-place.invariant.1 ∙ ap (λ (t : Vector). dot t (take i x)) (take_all i f (omega (arith, c.loop-place-test.false, c.len-place-end.ensures))) ∙ ap (dot f) (take_all i x (omega (arith, c.loop-place-test.false, c.len-place-end.ensures, c.requires)));
+      cause = tt;
     }
+
+pub returns-in-None-clause-cause : goal.returns-in-None-clause-cause
+returns-in-None-clause-cause g c =
+    let Z = g.T.Scalar.integer in
+    λ _. term_large _ _ g.met.T.Scalar.room c.args.form.now c.args.x.now c.loop-place.place (Z c.at.result) (Z c.at-in-loop-place.result) (omega (arith, c.loop-place-test.true, c.len-place-end.ensures)) c.requires c.at.ensures c.at-in-loop-place.ensures c.in-None.ensures

@@ -3,4 +3,4 @@ use Rattle.nz_sweep.proofs.DualLemmas.{units_dual}
 use Rattle.nz_sweep.proofs.basis.Basis.whole.Goals as goal
 
 pub invariant_of-result : goal.invariant_of-result
-invariant_of-result g c = (units_are_base c.args.width c.in-Ok.base.items c.in-Ok.ensures, units_dual c.args.width c.in-Ok.base.items c.in-Ok-unit_coordinates.coordinates.items c.in-Ok.ensures c.in-Ok-unit_coordinates.ensures)
+invariant_of-result g c = (units_are_base c.args.width c.in-Ok.base.items c.in-Ok-unit_coordinates.coordinates.items c.in-Ok.ensures, units_dual c.args.width c.in-Ok.base.items c.in-Ok-unit_coordinates.coordinates.items c.in-Ok.ensures c.in-Ok-unit_coordinates.ensures)
