@@ -11,4 +11,7 @@ pub mod LowerLemmas
 pub mod InsideLemmas
 pub mod NumberLemmas
 pub mod DivisionCauses
+pub mod GatherCauses
+pub mod ClearCauses
+pub mod CutCauses
 pub mod TermLemmas

@@ -7,11 +7,14 @@ use Rattle.std.proofs.lemmas.List.{take_more}
 use Rattle.nz_spec.specs.Vectors.{Vector, plus, scaled, entry, IsMultipleOf}
 use Rattle.nz_spec.proofs.IntLaws.{mul_assoc}
 use Rattle.nz_scalar.specs.Division.{IsFloorQuotient, HasGcd}
-use Rattle.nz_linear.proofs.Ring.{sums, ring_z}
+use Rattle.nz_linear.proofs.Ring.{sums, ring_z, one-mul}
 use Rattle.nz_linear.proofs.Signs.{sign_cases, cancel_le, cancel_lt, mul_is_pos}
 use Rattle.nz_linear.proofs.Lists.{each_map}
 use Rattle.nz_sweep.specs.Duals.{Coordinate, IsLowered, IsJoined}
+use Rattle.nz_scalar.specs.Room.{HasRoom}
+use Rattle.nz_scalar.proofs.GcdLemmas.{divisor_le}
 use Rattle.nz_sweep.proofs.PlaceLemmas.{each_more}
+use Rattle.nz_sweep.proofs.DivisionCauses.{gcd_large}
 
 -- one element more is copied
 pub copy_more : {A : Type 0} (xs ys zs : List A) (i : ℕ) (x c : A) → i < length xs → x ≡ get_or xs i x → c ≡ x → ys ≡ take i xs → zs ≡ ys ++ (c ∷ []) → zs ≡ take (i + 1) xs
@@ -42,13 +45,39 @@ divisor_above g c n p k = elim (sign_cases g) [
   | inr (inr b) ↦ absurd (omega (arith, ints, b, n))
 ]
 
--- a common divisor of the first entries, and of one more
-pub common_more : (c d g : ℤ) (f : Vector) (i : ℕ) → i < length f → pos 0 <ℤ c → IsMultipleOf c d → Each (IsMultipleOf c) (take i f) → HasGcd (c ∷ entry f i ∷ []) g → (pos 0 <ℤ g) × IsMultipleOf g d × Each (IsMultipleOf g) (take (i + 1) f)
-common_more c d g f i l p k h n = (
+-- the greatest common divisor of a number and the first entries, and of one more
+pub gcd_start : (d : ℤ) → pos 0 <ℤ d → HasGcd (d ∷ []) d
+gcd_start d p = record { nonneg = omega (arith, ints, p); divides = ((pos 1, sym (one-mul d)), tt); greatest = λ k m. m.0 }
+
+firsts : (P : ℤ → Type 0) (f : Vector) (i : ℕ) → Each P (take (suc i) f) → Each P (take i f)
+firsts P f zero e = tt
+firsts P [] (suc i) e = tt
+firsts P (x ∷ f) (suc i) e = (e.0, firsts P f i e.1)
+
+last_of : (P : ℤ → Type 0) (f : Vector) (i : ℕ) → i < length f → Each P (take (suc i) f) → P (entry f i)
+last_of P [] i l e = absurd (omega (arith, l))
+last_of P (x ∷ f) zero l e = e.0
+last_of P (x ∷ f) (suc i) l e = last_of P f i (omega (arith, l)) e.1
+
+pub gcd_more : (d c g : ℤ) (f : Vector) (i : ℕ) → i < length f → pos 0 <ℤ c → HasGcd (d ∷ take i f) c → HasGcd (c ∷ entry f i ∷ []) g → (pos 0 <ℤ g) × HasGcd (d ∷ take (i + 1) f) g
+gcd_more d c g f i l p h n = (
   divisor_above g c n.nonneg p n.divides.0,
-  multiple_through g c d n.divides.0 k,
-  each_more (IsMultipleOf g) (pos 0) f i l (each_map (IsMultipleOf c) (IsMultipleOf g) (take i f) (λ x m. multiple_through g c x n.divides.0 m) h) n.divides.1.0,
+  record {
+    nonneg = n.nonneg;
+    divides = (multiple_through g c d n.divides.0 h.divides.0, each_more (IsMultipleOf g) (pos 0) f i l (each_map (IsMultipleOf c) (IsMultipleOf g) (take i f) (λ x m. multiple_through g c x n.divides.0 m) h.divides.1) n.divides.1.0);
+    greatest = λ k m. let u = subst (λ (j : ℕ). Each (IsMultipleOf k) (take j f)) one_more m.1 in n.greatest k (h.greatest k (m.0, firsts (IsMultipleOf k) f i u), (last_of (IsMultipleOf k) f i l u, tt));
+  },
 )
+  where
+    one_more : i + 1 ≡ suc i
+    one_more = omega arith
+
+-- the first number is above the bound where there is none
+pub gcd_first_large : (h : ℤ) (fits : ℤ → Type 0) → HasRoom h fits → (d c e : ℤ) (xs : Vector) → pos 0 <ℤ d → pos 0 <ℤ c → HasGcd (d ∷ xs) c → ((z : ℤ) → HasGcd (c ∷ e ∷ []) z → ¬ fits z) → h <ℤ d
+gcd_first_large h fits r d c e xs pd pc k u =
+    let l = gcd_large h fits r c e pc u in
+    let m = divisor_le c d (omega (arith, ints, pc)) (omega (arith, ints, pd)) k.divides.0 in
+    omega (arith, ints, l, m)
 
 -- one entry more is divided
 pub divided_more : {T : Type 0} (integer : T → ℤ) (by : ℤ) (f : Vector) (es fs : List T) (i : ℕ) (x : T) → i < length f → scaled by (map integer es) ≡ take i f → by *ℤ integer x ≡ entry f i → fs ≡ es ++ (x ∷ []) → scaled by (map integer fs) ≡ take (i + 1) f

@@ -34,7 +34,7 @@ place_within all vs rest others i own r =
     let d = r.pivot.within in
     omega (arith, a, b, c, d)
 
-round_of : (all vs rest others : List Valued) (i : ℕ) (own : Valued) → AtRound all vs rest others i own → IsRound vs (insert others i own)
+abbrev pub round_of : (all vs rest others : List Valued) (i : ℕ) (own : Valued) → AtRound all vs rest others i own → IsRound vs (insert others i own)
 round_of all vs rest others i own r = record {
   place = i;
   own = own;

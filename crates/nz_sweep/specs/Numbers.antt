@@ -71,13 +71,13 @@ pub data IsEquationNumber (h : Vector) (b : Base) : ℤ → Type 0 where
 
 -- what is left is multiplied by t: the entries of its vector, t, and its divisor times t
 pub data IsMultiplyingNumber (m : ℤ) (own : Valued) (c : Coordinate) : ℤ → Type 0 where
-  of_vector : {n : ℤ} → Contains own.vector n → IsMultiplyingNumber m own c n
-  cofactor : {t : ℤ} → IsCofactor own.value m t → IsMultiplyingNumber m own c t
-  divisor : {t : ℤ} → IsCofactor own.value m t → IsMultiplyingNumber m own c (c.divisor *ℤ t)
+  own_entry : {n : ℤ} → Contains own.vector n → IsMultiplyingNumber m own c n
+  own_factor : {t : ℤ} → IsCofactor own.value m t → IsMultiplyingNumber m own c t
+  own_divisor : {t : ℤ} → IsCofactor own.value m t → IsMultiplyingNumber m own c (c.divisor *ℤ t)
 
 -- at a multiple of m: m, the measures, the numbers of clearing the remainders, and those of what is left
 pub data IsCongruenceNumber (h : Vector) (m : ℤ) (b : Base) : ℤ → Type 0 where
-  modulus : IsCongruenceNumber h m b m
-  measured : {n : ℤ} → IsMeasureOf h b.vectors n → IsCongruenceNumber h m b n
-  clearing : {values : List Valued} {n : ℤ} → AreValued (IsRemainderAt h m) b.vectors values → IsClearingNumber (start_of b values) n → IsCongruenceNumber h m b n
-  multiplying : {values others : List Valued} {s : State} {place : ℕ} {own : Valued} {n : ℤ} → AreValued (IsRemainderAt h m) b.vectors values → ClearsTo (start_of b values) s place own others → IsMultiplyingNumber m own (coordinate_at s.coordinates place) n → IsCongruenceNumber h m b n
+  of_modulus : IsCongruenceNumber h m b m
+  of_measure : {n : ℤ} → IsMeasureOf h b.vectors n → IsCongruenceNumber h m b n
+  of_clearing : {values : List Valued} {n : ℤ} → AreValued (IsRemainderAt h m) b.vectors values → IsClearingNumber (start_of b values) n → IsCongruenceNumber h m b n
+  of_multiplying : {values others : List Valued} {s : State} {place : ℕ} {own : Valued} {n : ℤ} → AreValued (IsRemainderAt h m) b.vectors values → ClearsTo (start_of b values) s place own others → IsMultiplyingNumber m own (coordinate_at s.coordinates place) n → IsCongruenceNumber h m b n

@@ -1,5 +1,5 @@
 -- Clearing with the coordinates of the base beside its vectors, and what a cut leaves of both.
-use Rattle.std.specs.Prelude.{◌≡◌, ◌≢◌, ◌⊎◌, ℕ, suc, ◌≤◌, List, ◌∷◌, length, set, ℤ, pos, ◌*ℤ◌, ◌<ℤ◌}
+use Rattle.std.specs.Prelude.{◌≡◌, ◌≢◌, ◌⊎◌, ℕ, ◌+◌, ◌≤◌, List, ◌∷◌, length, set, ℤ, pos, ◌*ℤ◌, ◌<ℤ◌}
 use Rattle.std.specs.List.{AllByRecursion as Each, insert, remove}
 use Rattle.nz_spec.specs.Vectors.{Vector, dot, plus, scaled, entry, IsMultipleOf}
 use Rattle.nz_scalar.specs.Division.{IsFloorQuotient, HasGcd}
@@ -50,8 +50,8 @@ pub record GoesInto (values : List ℤ) (place j : ℕ) (q : ℤ) : Type 0 where
 -- c is the coordinate at the pivot's place once it has reduced the first n of the others, in order
 pub data Gathers (s : State) (place : ℕ) : ℕ → Coordinate → Type 0 where
   none : Gathers s place 0 (coordinate_at s.coordinates place)
-  passed : {n : ℕ} {c : Coordinate} → Gathers s place n c → (n ≡ place) ⊎ (entry (values_of s.valued) n ≡ pos 0) → Gathers s place (suc n) c
-  taken : {n : ℕ} {q : ℤ} {c d : Coordinate} → Gathers s place n c → GoesInto (values_of s.valued) place n q → IsTakenIn q c (coordinate_at s.coordinates n) d → Gathers s place (suc n) d
+  passed : {n : ℕ} {c : Coordinate} → Gathers s place n c → (n ≡ place) ⊎ (entry (values_of s.valued) n ≡ pos 0) → Gathers s place (n + 1) c
+  taken : {n : ℕ} {q : ℤ} {c d : Coordinate} → Gathers s place n c → GoesInto (values_of s.valued) place n q → IsTakenIn q c (coordinate_at s.coordinates n) d → Gathers s place (n + 1) d
 
 -- one round: the pivot reduces all others, and its coordinate gathers theirs
 pub record IsFullRound (s t : State) : Type 0 where
@@ -94,7 +94,16 @@ pub record TakesOutOf (h : Vector) (b c : Base) : Type 0 where
 abbrev pub IsEquationMove : Vector → Base → Base → Type 0
 IsEquationMove h b c = (Each (λ v. dot h v ≡ pos 0) b.vectors × (c ≡ b)) ⊎ TakesOutOf h b c
 
--- the remainders are cleared, and the vector that is left with one and its divisor are multiplied by m divided by the greatest common divisor of the remainder and m
+-- the vector that is left and its divisor are multiplied by m divided by the greatest common divisor of its value and m
+pub record IsMultipliedWith (m : ℤ) (place : ℕ) (own : Valued) (others : List Vector) (before : List Coordinate) (us : List Vector) (after : List Coordinate) : Type 0 where
+  pub t : ℤ
+  pub cofactor : IsCofactor own.value m t
+  pub coordinate : Coordinate
+  pub lowest : IsInLowestTerms (coordinate_at before place).form ((coordinate_at before place).divisor *ℤ t) coordinate
+  pub vectors : us ≡ insert others place (scaled t own.vector)
+  pub coordinates : after ≡ set before place coordinate
+
+-- the remainders are cleared, and the vector that is left with one is multiplied
 pub record MultipliesIn (h : Vector) (m : ℤ) (b c : Base) : Type 0 where
   pub values : List Valued
   pub valued : AreValued (IsRemainderAt h m) b.vectors values
@@ -103,12 +112,7 @@ pub record MultipliesIn (h : Vector) (m : ℤ) (b c : Base) : Type 0 where
   pub own : Valued
   pub others : List Valued
   pub cleared : ClearsTo (start_of b values) state place own others
-  pub t : ℤ
-  pub cofactor : IsCofactor own.value m t
-  pub coordinate : Coordinate
-  pub lowest : IsInLowestTerms (coordinate_at state.coordinates place).form ((coordinate_at state.coordinates place).divisor *ℤ t) coordinate
-  pub vectors : c.vectors ≡ insert (vectors_of others) place (scaled t own.vector)
-  pub coordinates : c.coordinates ≡ set state.coordinates place coordinate
+  pub multiplied : IsMultipliedWith m place own (vectors_of others) state.coordinates c.vectors c.coordinates
 
 -- nothing changes where the form is a multiple of m at all
 abbrev pub IsCongruenceMove : Vector → ℤ → Base → Base → Type 0

@@ -1,11 +1,13 @@
-ghost use Rattle.std.specs.Prelude.{◌≡◌, ◌<◌, ◌≤ℤ◌, ℤ, pos, IfOk, OnOk, OnErr, MatchOption, MatchResult, length};
+ghost use Rattle.std.specs.Prelude.{◌≡◌, ◌<◌, ◌≤ℤ◌, ℤ, pos, map, IfOk, IfErr, OnOk, OnErr, MatchOption, MatchResult, length};
 ghost use Rattle.std.specs.List.{AllByRecursion as Each};
 ghost use Rattle.nz_spec.specs.Vectors.{combination, dot, unit_vectors, HasWidth, IsMultipleOf};
 ghost use Rattle.nz_spec.specs.Sums.{IsInGroup};
 ghost use Rattle.nz_linear.specs.Coordinates.{in_coordinates};
 ghost use Rattle.nz_sweep.specs.Bases.{IsBase, column_of, CombinationSumsFit, ValueSumsFit};
 ghost use Rattle.nz_sweep.specs.Cuts.{IsCut, IsEquationStep, IsCongruenceStep};
-ghost use Rattle.nz_sweep.specs.Numbers.{SomeNumberLarge, IsCoordinateNumber};
+ghost use Rattle.nz_sweep.specs.Duals.{unit_coordinate};
+ghost use Rattle.nz_sweep.specs.Numbers.{SomeNumberLarge, IsCoordinateNumber, IsEquationNumber, IsCongruenceNumber};
+ghost use Rattle.nz_sweep.specs.Rounds.{IsEquationMove, IsCongruenceMove};
 
 use crate::coordinates::{Coordinate, unit_coordinates};
 use crate::cutting::{multiples, zeros};
@@ -38,7 +40,7 @@ impl<T: Scalar> Model for Basis<T> {
 impl<T: Scalar> Basis<T> {
     /// The lattice of all vectors of this width, by the unit vectors.
     pub fn whole(alloc: Global, width: usize) -> Result<Basis<T>, NoMemory>
-        ensures { IfOk result (λ b. (b.width ≡ width) × (b.vectors ≡ unit_vectors width)) }
+        ensures { IfOk result (λ b. (b.width ≡ width) × (b.vectors ≡ unit_vectors width) × (b.coordinates ≡ map unit_coordinate (unit_vectors width))) }
     {
         let base = match units(alloc, width) {
             Ok(base) => base,
@@ -64,12 +66,17 @@ impl<T: Scalar> Basis<T> {
 
     /// Leaves of the lattice exactly the vectors at which the form is 0. The vectors are cleared at
     /// the form by the least value, as in Euclid's algorithm, and the one left with a value is taken
-    /// out. A refusal changes nothing; which numbers make it Range is not stated.
+    /// out. A refusal changes nothing. Range comes only where a number of the steps is above `HALF`:
+    /// the sum of the sizes of the products of the form and a vector, an entry or a value of a vector,
+    /// an entry or the divisor of a coordinate form, the common divisor of two of them, or a factor by
+    /// which one takes in another.
     pub fn cut_equation(&mut self, alloc: Global, form: &Row<T>) -> Result<(), Num>
         requires { length form.now ≡ self.old.width }
         ensures width { self.new.width ≡ self.old.width }
         ensures cut { OnOk result (IsCut (λ x. dot form.now x ≡ pos 0) self.old.width self.old.vectors self.new.vectors) }
         ensures steps { OnOk result (IsEquationStep form.now self.old.vectors self.new.vectors) }
+        ensures state { OnOk result (IsEquationMove form.now self.old self.new) }
+        ensures cause { IfErr result (λ e. e ≡ Num.Range → SomeNumberLarge T.HALF (IsEquationNumber form.now self.old)) }
         ensures err { OnErr result (self.new ≡ self.old) }
     {
         let (base, coordinates) = (self.base.as_slice(), self.coordinates.as_slice());
@@ -85,14 +92,17 @@ impl<T: Scalar> Basis<T> {
 
     /// Leaves of the lattice exactly the vectors at which the form is a multiple of the modulus. The
     /// vectors are cleared at the remainders, and the one left with a remainder is multiplied by the
-    /// modulus divided by their greatest common divisor. A refusal changes nothing; which numbers
-    /// make it Range is not stated.
+    /// modulus divided by their greatest common divisor. A refusal changes nothing. Range comes only
+    /// where a number of the steps is above `HALF`: those of an equation, the modulus, the factor of
+    /// the vector that is left, or its divisor times that.
     pub fn cut_congruence(&mut self, alloc: Global, form: &Row<T>, modulus: T) -> Result<(), Num>
         requires form { length form.now ≡ self.old.width }
         requires modulus { pos 1 ≤ℤ T.integer modulus }
         ensures width { self.new.width ≡ self.old.width }
         ensures cut { OnOk result (IsCut (λ x. IsMultipleOf (T.integer modulus) (dot form.now x)) self.old.width self.old.vectors self.new.vectors) }
         ensures steps { OnOk result (IsCongruenceStep form.now (T.integer modulus) self.old.vectors self.new.vectors) }
+        ensures state { OnOk result (IsCongruenceMove form.now (T.integer modulus) self.old self.new) }
+        ensures cause { IfErr result (λ e. e ≡ Num.Range → SomeNumberLarge T.HALF (IsCongruenceNumber form.now (T.integer modulus) self.old)) }
         ensures err { OnErr result (self.new ≡ self.old) }
     {
         let (base, coordinates) = (self.base.as_slice(), self.coordinates.as_slice());

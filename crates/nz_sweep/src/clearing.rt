@@ -1,9 +1,11 @@
 // Clearing: the vectors of a base are taken from one another until all but one have the value 0.
-ghost use Rattle.std.specs.Prelude.{◌≡◌, ◌≢◌, pos, length, IfOk};
+ghost use Rattle.std.specs.Prelude.{◌≡◌, ◌≢◌, ◌∷◌, [], pos, length, IfOk, MatchResult};
 ghost use Rattle.std.specs.List.{AllByRecursion as Each, AllZip, insert};
 ghost use Rattle.nz_spec.specs.Vectors.{HasWidth};
 ghost use Rattle.nz_sweep.specs.Clearing.{Valued as ValuedVector, values_of, vectors_of, IsPivot, IsReduced, IsCleared};
 ghost use Rattle.nz_sweep.specs.Duals.{AreDual};
+ghost use Rattle.nz_sweep.specs.Numbers.{SomeNumberLarge, IsOfValued, IsClearingNumber};
+ghost use Rattle.nz_sweep.specs.Rounds.{Leads};
 
 use crate::coordinates::Coordinate;
 use crate::gathering::gathered;
@@ -35,6 +37,7 @@ pub(crate) fn clear_all<T: Scalar>(
     requires dual { AreDual width (vectors_of list.items) coordinates.items }
     ensures cleared { IfOk result (λ c. IsCleared list.items c.place c.own c.others.items) }
     ensures dual { IfOk result (λ c. AreDual width (vectors_of (insert c.others.items c.place c.own)) c.coordinates.items) }
+    ensures state { MatchResult result (λ c. Leads (record { valued = list.items; coordinates = coordinates.items }) (record { valued = insert c.others.items c.place c.own; coordinates = c.coordinates.items })) (λ e. e ≡ Num.Range → SomeNumberLarge T.HALF (IsClearingNumber (record { valued = list.items; coordinates = coordinates.items }))) }
 {
     let mut list = list;
     let mut coordinates = coordinates;
@@ -80,7 +83,7 @@ fn reduced_all<T: Scalar>(
     requires nonzero { own.now.value ≢ pos 0 }
     requires width { HasWidth width own.now.vector }
     requires widths { Each (HasWidth width) (vectors_of others.now) }
-    ensures { IfOk result (λ v. AllZip (IsReduced own.now) others.now v.items) }
+    ensures { MatchResult result (λ v. AllZip (IsReduced own.now) others.now v.items) (λ e. e ≡ Num.Range → SomeNumberLarge T.HALF (IsOfValued (own.now ∷ others.now))) }
 {
     let mut all = match Vec::with_capacity(alloc, others.len()) {
         Ok(all) => all,
@@ -99,7 +102,7 @@ fn reduced_all<T: Scalar>(
 fn reduced<T: Scalar>(alloc: Global, own: &Valued<T>, other: &Valued<T>) -> Result<Valued<T>, Num>
     requires nonzero { own.now.value ≢ pos 0 }
     requires width { length other.now.vector ≡ length own.now.vector }
-    ensures { IfOk result (IsReduced own.now other.now) }
+    ensures { MatchResult result (IsReduced own.now other.now) (λ e. e ≡ Num.Range → SomeNumberLarge T.HALF (IsOfValued (own.now ∷ other.now ∷ []))) }
 {
     let quotient = match other.value.floor_div(own.value) {
         Some(quotient) => quotient,

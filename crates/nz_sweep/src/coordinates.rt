@@ -1,8 +1,10 @@
 // The coordinates of a base, each as a form and a divisor in lowest terms.
-ghost use Rattle.std.specs.Prelude.{◌≡◌, ◌<ℤ◌, pos, map, IfOk, IfSome};
+ghost use Rattle.std.specs.Prelude.{◌≡◌, ◌<ℤ◌, ◌∷◌, pos, map, IfOk, MatchOption, MatchResult};
 ghost use Rattle.std.specs.List.{AllByRecursion as Each};
 ghost use Rattle.nz_spec.specs.Vectors.{scaled, unit_vectors, IsMultipleOf};
+ghost use Rattle.nz_scalar.specs.Division.{HasGcd};
 ghost use Rattle.nz_sweep.specs.Duals.{unit_coordinate, IsLowered};
+ghost use Rattle.nz_sweep.specs.Rounds.{IsInLowestTerms};
 
 use crate::units::units;
 use nz_vec::{NoMemory, Num, Row, Scalar};
@@ -58,12 +60,12 @@ fn unit<T: Scalar>(form: Row<T>) -> Coordinate<T>
 pub(crate) fn copies<T: Scalar>(
     alloc: Global,
     list: &[Coordinate<T>],
-) -> Result<Vec<Coordinate<T>>, Num>
+) -> Result<Vec<Coordinate<T>>, NoMemory>
     ensures { IfOk result (λ v. v.items ≡ list.now) }
 {
     let mut copies = match Vec::with_capacity(alloc, list.len()) {
         Ok(copies) => copies,
-        Err(_) => return Err(Num::NoMemory),
+        Err(_) => return Err(NoMemory),
     };
     for place in 0..list.len() {
         match copied(&list[place]) {
@@ -75,7 +77,7 @@ pub(crate) fn copies<T: Scalar>(
 }
 
 /// An equal coordinate.
-pub(crate) fn copied<T: Scalar>(coordinate: &Coordinate<T>) -> Result<Coordinate<T>, Num>
+pub(crate) fn copied<T: Scalar>(coordinate: &Coordinate<T>) -> Result<Coordinate<T>, NoMemory>
     ensures { IfOk result (λ c. c ≡ coordinate.now) }
 {
     match coordinate.form.try_copy() {
@@ -83,7 +85,7 @@ pub(crate) fn copied<T: Scalar>(coordinate: &Coordinate<T>) -> Result<Coordinate
             form,
             divisor: coordinate.divisor,
         }),
-        Err(refusal) => Err(Num::from(refusal)),
+        Err(refusal) => Err(refusal),
     }
 }
 
@@ -94,7 +96,8 @@ pub(crate) fn lowest<T: Scalar>(
     divisor: T,
 ) -> Result<Coordinate<T>, Num>
     requires { pos 0 <ℤ T.integer divisor }
-    ensures { IfOk result (IsLowered form.now (T.integer divisor)) }
+    ensures lowered { IfOk result (IsLowered form.now (T.integer divisor)) }
+    ensures lowest { MatchResult result (IsInLowestTerms form.now (T.integer divisor)) (λ e. e ≡ Num.Range → T.HALF <ℤ T.integer divisor) }
 {
     let common = match common_divisor(form, divisor) {
         Some(common) => common,
@@ -113,7 +116,7 @@ pub(crate) fn lowest<T: Scalar>(
 // The greatest common divisor of the divisor and the entries.
 fn common_divisor<T: Scalar>(form: &Row<T>, divisor: T) -> Option<T>
     requires { pos 0 <ℤ T.integer divisor }
-    ensures { IfSome result (λ g. (pos 0 <ℤ T.integer g) × IsMultipleOf (T.integer g) (T.integer divisor) × Each (IsMultipleOf (T.integer g)) form.now) }
+    ensures { MatchOption result (T.HALF <ℤ T.integer divisor) (λ g. (pos 0 <ℤ T.integer g) × HasGcd (T.integer divisor ∷ form.now) (T.integer g)) }
 {
     let mut common = divisor;
     for place in 0..form.len() {
@@ -129,7 +132,7 @@ fn common_divisor<T: Scalar>(form: &Row<T>, divisor: T) -> Option<T>
 fn divided<T: Scalar>(alloc: Global, form: &Row<T>, by: T) -> Result<Row<T>, Num>
     requires positive { pos 0 <ℤ T.integer by }
     requires divides { Each (IsMultipleOf (T.integer by)) form.now }
-    ensures { IfOk result (λ r. scaled (T.integer by) r ≡ form.now) }
+    ensures { MatchResult result (λ r. scaled (T.integer by) r ≡ form.now) (λ e. e ≡ Num.NoMemory) }
 {
     let mut entries = match Vec::with_capacity(alloc, form.len()) {
         Ok(entries) => entries,

@@ -1,10 +1,12 @@
 // Cuts of a base: the vectors of its group at which a form is 0, or a multiple of a modulus.
-ghost use Rattle.std.specs.Prelude.{◌≡◌, ◌≤◌, ◌≤ℤ◌, ◌<ℤ◌, ◌*ℤ◌, pos, length, IfOk, IfSome};
-ghost use Rattle.std.specs.List.{AllByRecursion as Each, insert};
+ghost use Rattle.std.specs.Prelude.{◌≡◌, ◌⊎◌, ◌≤◌, ◌≤ℤ◌, ◌<ℤ◌, ◌*ℤ◌, pos, length, unsigned_abs, Contains, IfOk, MatchOption, MatchResult};
+ghost use Rattle.std.specs.List.{AllByRecursion as Each, insert, remove};
 ghost use Rattle.nz_spec.specs.Vectors.{scaled, HasWidth};
 ghost use Rattle.nz_sweep.specs.Clearing.{vectors_of};
 ghost use Rattle.nz_sweep.specs.Cuts.{IsEquationStep, IsCongruenceStep, IsCofactor, IsMultiplied};
-ghost use Rattle.nz_sweep.specs.Duals.{AreDual, IsLowered};
+ghost use Rattle.nz_sweep.specs.Duals.{AreDual, IsLowered, coordinate_at};
+ghost use Rattle.nz_sweep.specs.Numbers.{SomeNumberLarge, IsEquationNumber, IsMultiplyingNumber, IsCongruenceNumber};
+ghost use Rattle.nz_sweep.specs.Rounds.{IsEquationMove, IsCongruenceMove, IsInLowestTerms, IsMultipliedWith};
 
 use crate::clearing::{Cleared, clear_all};
 use crate::coordinates::{Coordinate, copies, lowest};
@@ -32,6 +34,7 @@ pub(crate) fn zeros<T: Scalar>(
     requires widths { Each (HasWidth width) base.now }
     requires dual { AreDual width base.now coordinates.now }
     ensures step { IfOk result (λ r. IsEquationStep form.now base.now r.base.items) }
+    ensures state { MatchResult result (λ r. IsEquationMove form.now (record { width = width; vectors = base.now; coordinates = coordinates.now }) (record { width = width; vectors = r.base.items; coordinates = r.coordinates.items })) (λ e. e ≡ Num.Range → SomeNumberLarge T.HALF (IsEquationNumber form.now (record { width = width; vectors = base.now; coordinates = coordinates.now }))) }
     ensures dual { IfOk result (λ r. AreDual width r.base.items r.coordinates.items) }
 {
     let list = match with_values(alloc, base, form) {
@@ -40,7 +43,7 @@ pub(crate) fn zeros<T: Scalar>(
     };
     let coordinates = match copies(alloc, coordinates) {
         Ok(coordinates) => coordinates,
-        Err(refusal) => return Err(refusal),
+        Err(refusal) => return Err(Num::from(refusal)),
     };
     let place = match least(list.as_slice()) {
         Some(place) => place,
@@ -66,6 +69,7 @@ pub(crate) fn multiples<T: Scalar>(
     requires widths { Each (HasWidth width) base.now }
     requires dual { AreDual width base.now coordinates.now }
     ensures step { IfOk result (λ r. IsCongruenceStep form.now (T.integer modulus) base.now r.base.items) }
+    ensures state { MatchResult result (λ r. IsCongruenceMove form.now (T.integer modulus) (record { width = width; vectors = base.now; coordinates = coordinates.now }) (record { width = width; vectors = r.base.items; coordinates = r.coordinates.items })) (λ e. e ≡ Num.Range → SomeNumberLarge T.HALF (IsCongruenceNumber form.now (T.integer modulus) (record { width = width; vectors = base.now; coordinates = coordinates.now }))) }
     ensures dual { IfOk result (λ r. AreDual width r.base.items r.coordinates.items) }
 {
     let list = match with_remainders(alloc, base, form, modulus) {
@@ -74,7 +78,7 @@ pub(crate) fn multiples<T: Scalar>(
     };
     let coordinates = match copies(alloc, coordinates) {
         Ok(coordinates) => coordinates,
-        Err(refusal) => return Err(refusal),
+        Err(refusal) => return Err(Num::from(refusal)),
     };
     let place = match least(list.as_slice()) {
         Some(place) => place,
@@ -91,7 +95,7 @@ fn unchanged<T: Scalar>(
     list: Vec<Valued<T>>,
     coordinates: Vec<Coordinate<T>>,
 ) -> Result<DualBase<T>, Num>
-    ensures { IfOk result (λ r. (r.base.items ≡ vectors_of list.items) × (r.coordinates.items ≡ coordinates.items)) }
+    ensures { MatchResult result (λ r. (r.base.items ≡ vectors_of list.items) × (r.coordinates.items ≡ coordinates.items)) (λ e. e ≡ Num.NoMemory) }
 {
     match rows(alloc, list) {
         Ok(base) => Ok(DualBase { base, coordinates }),
@@ -107,7 +111,7 @@ fn taken_out<T: Scalar>(
 ) -> Result<DualBase<T>, Num>
     requires inside { cleared.place ≤ length cleared.others.items }
     requires dual { AreDual width (vectors_of (insert cleared.others.items cleared.place cleared.own)) cleared.coordinates.items }
-    ensures left { IfOk result (λ r. r.base.items ≡ vectors_of cleared.others.items) }
+    ensures left { MatchResult result (λ r. (r.base.items ≡ vectors_of cleared.others.items) × (r.coordinates.items ≡ remove cleared.coordinates.items cleared.place)) (λ e. e ≡ Num.NoMemory) }
     ensures dual { IfOk result (λ r. AreDual width r.base.items r.coordinates.items) }
 {
     let Cleared {
@@ -134,6 +138,7 @@ fn multiplied<T: Scalar>(
     requires inside { cleared.place ≤ length cleared.others.items }
     requires dual { AreDual width (vectors_of (insert cleared.others.items cleared.place cleared.own)) cleared.coordinates.items }
     ensures multiplied { IfOk result (λ r. IsMultiplied (T.integer modulus) cleared.place cleared.own (vectors_of cleared.others.items) r.base.items) }
+    ensures state { MatchResult result (λ r. IsMultipliedWith (T.integer modulus) cleared.place cleared.own (vectors_of cleared.others.items) cleared.coordinates.items r.base.items r.coordinates.items) (λ e. e ≡ Num.Range → (T.HALF <ℤ T.integer modulus) ⊎ SomeNumberLarge T.HALF (IsMultiplyingNumber (T.integer modulus) cleared.own (coordinate_at cleared.coordinates.items cleared.place))) }
     ensures dual { IfOk result (λ r. AreDual width r.base.items r.coordinates.items) }
 {
     let Cleared {
@@ -173,7 +178,8 @@ fn over<T: Scalar>(
 ) -> Result<Coordinate<T>, Num>
     requires divisor { pos 0 <ℤ coordinate.now.divisor }
     requires factor { pos 0 <ℤ T.integer factor }
-    ensures { IfOk result (IsLowered coordinate.now.form (coordinate.now.divisor *ℤ T.integer factor)) }
+    ensures lowered { IfOk result (IsLowered coordinate.now.form (coordinate.now.divisor *ℤ T.integer factor)) }
+    ensures lowest { MatchResult result (IsInLowestTerms coordinate.now.form (coordinate.now.divisor *ℤ T.integer factor)) (λ e. e ≡ Num.Range → T.HALF <ℤ pos (unsigned_abs (coordinate.now.divisor *ℤ T.integer factor))) }
 {
     match coordinate.divisor.try_mul(factor) {
         Some(divisor) => lowest(alloc, &coordinate.form, divisor),
@@ -184,7 +190,7 @@ fn over<T: Scalar>(
 // The modulus divided by its greatest common divisor with the value.
 fn cofactor<T: Scalar>(value: T, modulus: T) -> Option<T>
     requires { pos 1 ≤ℤ T.integer modulus }
-    ensures { IfSome result (λ t. IsCofactor (T.integer value) (T.integer modulus) (T.integer t)) }
+    ensures { MatchOption result (T.HALF <ℤ T.integer modulus) (λ t. IsCofactor (T.integer value) (T.integer modulus) (T.integer t)) }
 {
     let divisor = match value.gcd(modulus) {
         Some(divisor) => divisor,
@@ -194,7 +200,7 @@ fn cofactor<T: Scalar>(value: T, modulus: T) -> Option<T>
 }
 
 fn times<T: Scalar>(alloc: Global, factor: T, row: &Row<T>) -> Result<Row<T>, Num>
-    ensures { IfOk result (λ r. r ≡ scaled (T.integer factor) row.now) }
+    ensures { MatchResult result (λ r. r ≡ scaled (T.integer factor) row.now) (λ e. e ≡ Num.Range → SomeNumberLarge T.HALF (λ n. (n ≡ T.integer factor) ⊎ Contains row.now n)) }
 {
     Row::combine(alloc, factor, row, T::of_i64(0), row)
 }

@@ -1,9 +1,11 @@
 // Vectors of a base with the values of a form at them.
-ghost use Rattle.std.specs.Prelude.{◌≡◌, ◌<◌, ◌≤ℤ◌, ◌↔◌, pos, length, unsigned_abs, IfOk, IfSome, IsTrue};
+ghost use Rattle.std.specs.Prelude.{◌≡◌, ◌<◌, ◌≤ℤ◌, ◌<ℤ◌, ◌↔◌, ◌⊎◌, pos, length, unsigned_abs, IsTrue, MatchOption, MatchResult};
 ghost use Rattle.std.specs.List.{AllByRecursion as Each};
 ghost use Rattle.nz_spec.specs.Vectors.{dot, HasWidth};
 ghost use Rattle.nz_sweep.specs.Clearing.{Valued as ValuedVector, vectors_of};
+ghost use Rattle.nz_range.specs.Measures.{pair_measure};
 ghost use Rattle.nz_sweep.specs.Cuts.{AreValued, IsValueAt, IsRemainder, IsRemainderAt};
+ghost use Rattle.nz_sweep.specs.Numbers.{SomeNumberLarge, IsMeasureOf};
 
 use nz_vec::{Num, Row, Scalar};
 use std::alloc::Global;
@@ -31,7 +33,7 @@ pub(crate) fn with_values<T: Scalar>(
     form: &Row<T>,
 ) -> Result<Vec<Valued<T>>, Num>
     requires { Each (HasWidth (length form.now)) base.now }
-    ensures { IfOk result (λ v. AreValued (IsValueAt form.now) base.now v.items) }
+    ensures { MatchResult result (λ v. AreValued (IsValueAt form.now) base.now v.items) (λ e. e ≡ Num.Range → SomeNumberLarge T.HALF (IsMeasureOf form.now base.now)) }
 {
     let mut list = match Vec::with_capacity(alloc, base.len()) {
         Ok(list) => list,
@@ -48,7 +50,7 @@ pub(crate) fn with_values<T: Scalar>(
 
 fn with_value<T: Scalar>(row: &Row<T>, form: &Row<T>) -> Result<Valued<T>, Num>
     requires { length row.now ≡ length form.now }
-    ensures { IfOk result (λ v. (v.vector ≡ row.now) × (v.value ≡ dot form.now row.now)) }
+    ensures { MatchResult result (λ v. (v.vector ≡ row.now) × (v.value ≡ dot form.now row.now)) (λ e. e ≡ Num.Range → T.HALF <ℤ pos (pair_measure form.now row.now)) }
 {
     let value = match form.dot(row) {
         Some(value) => value,
@@ -69,7 +71,7 @@ pub(crate) fn with_remainders<T: Scalar>(
 ) -> Result<Vec<Valued<T>>, Num>
     requires modulus { pos 1 ≤ℤ T.integer modulus }
     requires widths { Each (HasWidth (length form.now)) base.now }
-    ensures { IfOk result (λ v. AreValued (IsRemainderAt form.now (T.integer modulus)) base.now v.items) }
+    ensures { MatchResult result (λ v. AreValued (IsRemainderAt form.now (T.integer modulus)) base.now v.items) (λ e. e ≡ Num.Range → SomeNumberLarge T.HALF (λ n. (n ≡ T.integer modulus) ⊎ IsMeasureOf form.now base.now n)) }
 {
     let mut list = match Vec::with_capacity(alloc, base.len()) {
         Ok(list) => list,
@@ -87,7 +89,7 @@ pub(crate) fn with_remainders<T: Scalar>(
 fn with_remainder<T: Scalar>(row: &Row<T>, form: &Row<T>, modulus: T) -> Result<Valued<T>, Num>
     requires modulus { pos 1 ≤ℤ T.integer modulus }
     requires width { length row.now ≡ length form.now }
-    ensures { IfOk result (λ v. (v.vector ≡ row.now) × IsRemainderAt form.now (T.integer modulus) row.now v.value) }
+    ensures { MatchResult result (λ v. (v.vector ≡ row.now) × IsRemainderAt form.now (T.integer modulus) row.now v.value) (λ e. e ≡ Num.Range → (T.HALF <ℤ T.integer modulus) ⊎ (T.HALF <ℤ pos (pair_measure form.now row.now))) }
 {
     let value = match form.dot(row) {
         Some(value) => value,
@@ -105,7 +107,7 @@ fn with_remainder<T: Scalar>(row: &Row<T>, form: &Row<T>, modulus: T) -> Result<
 
 fn remainder<T: Scalar>(value: T, modulus: T) -> Option<T>
     requires { pos 1 ≤ℤ T.integer modulus }
-    ensures { IfSome result (λ r. IsRemainder (T.integer modulus) (T.integer value) (T.integer r)) }
+    ensures { MatchOption result ((T.HALF <ℤ T.integer modulus) ⊎ (T.HALF <ℤ pos (unsigned_abs (T.integer value)))) (λ r. IsRemainder (T.integer modulus) (T.integer value) (T.integer r)) }
 {
     let quotient = match value.floor_div(modulus) {
         Some(quotient) => quotient,
@@ -120,7 +122,7 @@ fn remainder<T: Scalar>(value: T, modulus: T) -> Option<T>
 
 /// The vectors alone.
 pub(crate) fn rows<T: Scalar>(alloc: Global, list: Vec<Valued<T>>) -> Result<Vec<Row<T>>, Num>
-    ensures { IfOk result (λ r. r.items ≡ vectors_of list.items) }
+    ensures { MatchResult result (λ r. r.items ≡ vectors_of list.items) (λ e. e ≡ Num.NoMemory) }
 {
     let mut rows = Vec::new(alloc);
     for valued in list {

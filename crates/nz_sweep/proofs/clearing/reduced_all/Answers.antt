@@ -1,5 +1,6 @@
 use Rattle.std.proofs.Common.{◌+◌, ap, sym, ◌∙◌}
 use Rattle.nz_sweep.specs.Clearing.{IsReduced}
+use Rattle.nz_sweep.proofs.ClearCauses.{one_of_others}
 use Rattle.nz_sweep.proofs.ClearingLemmas.{zip_more, width_at}
 use Rattle.nz_sweep.proofs.clearing.reduced_all.Goals as goal
 
@@ -12,3 +13,6 @@ loop-place-preserved g c = (
 
 pub reduced-requires-clause-width : goal.reduced-requires-clause-width
 reduced-requires-clause-width g c = width_at c.args.width c.args.others.now c.loop-place.place _ c.requires.widths c.loop-place-test.true c.index-others-place.is ∙ sym c.requires.width
+
+pub returns-in-Err-reduced : goal.returns-in-Err-reduced
+returns-in-Err-reduced g c = λ e. one_of_others g.T.Scalar.HALF c.args.own.now c.index-others-place.result c.args.others.now (c.loop-place.place, c.loop-place-test.true, sym c.index-others-place.is) (c.in-Err-reduced.ensures e)
