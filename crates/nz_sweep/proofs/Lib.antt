@@ -15,3 +15,6 @@ pub mod GatherCauses
 pub mod ClearCauses
 pub mod CutCauses
 pub mod TermLemmas
+pub mod GeneratingLemmas
+pub mod BottomLemmas
+pub mod ConstrainingLemmas

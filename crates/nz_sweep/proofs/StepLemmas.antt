@@ -48,10 +48,10 @@ zeros_are h (v ∷ vs) [] z k = absurd z
 zeros_are h (v ∷ vs) (l ∷ ls) z k = (sym z.0.1 ∙ k.0, zeros_are h vs ls z.1 k.1)
 
 -- ---- equations
-none_of : (z : ℤ) → IsMultipleOf (pos 0) z → z ≡ pos 0
+pub none_of : (z : ℤ) → IsMultipleOf (pos 0) z → z ≡ pos 0
 none_of z h = h.1 ∙ *ℤ-zero h.0
 
-zero_values : (h : Vector) (vs : List Valued) → Each (IsValueOf h (pos 0)) vs → AreZero vs → Each (λ v. dot h v ≡ pos 0) (vectors_of vs)
+pub zero_values : (h : Vector) (vs : List Valued) → Each (IsValueOf h (pos 0)) vs → AreZero vs → Each (λ v. dot h v ≡ pos 0) (vectors_of vs)
 zero_values h [] a z = tt
 zero_values h (v ∷ vs) a z = (let e = none_of _ a.0 in let f = z.0 in omega (arith, ints, e, f), zero_values h vs a.1 z.1)
 

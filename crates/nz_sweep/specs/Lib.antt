@@ -1,7 +1,10 @@
 pub mod Bases
+pub mod Bottom
 pub mod Clearing
 pub mod Cuts
 pub mod Duals
+pub mod Generating
+pub mod GroupConstraints
 pub mod Numbers
 pub mod Rounds
 pub mod Terms

@@ -1,19 +1,24 @@
-ghost use Rattle.std.specs.Prelude.{◌≡◌, ◌<◌, ◌≤ℤ◌, ℤ, pos, map, IfOk, IfErr, OnOk, OnErr, MatchOption, MatchResult, length};
+ghost use Rattle.std.specs.Prelude.{◌≡◌, ◌<◌, ◌≤ℤ◌, ◌↔◌, ℤ, pos, map, IfOk, IfErr, OnOk, OnErr, MatchOption, MatchResult, length};
 ghost use Rattle.std.specs.List.{AllByRecursion as Each};
-ghost use Rattle.nz_spec.specs.Vectors.{combination, dot, unit_vectors, HasWidth, IsMultipleOf};
+ghost use Rattle.nz_spec.specs.Vectors.{Vector, combination, dot, unit_vectors, HasWidth, IsMultipleOf};
 ghost use Rattle.nz_spec.specs.Sums.{IsInGroup};
+ghost use Rattle.nz_spec.specs.Constraints.{MeetsAll};
 ghost use Rattle.nz_linear.specs.Coordinates.{in_coordinates};
 ghost use Rattle.nz_sweep.specs.Bases.{IsBase, column_of, CombinationSumsFit, ValueSumsFit};
 ghost use Rattle.nz_sweep.specs.Cuts.{IsCut, IsEquationStep, IsCongruenceStep};
 ghost use Rattle.nz_sweep.specs.Duals.{unit_coordinate};
 ghost use Rattle.nz_sweep.specs.Numbers.{SomeNumberLarge, IsCoordinateNumber, IsEquationNumber, IsCongruenceNumber};
 ghost use Rattle.nz_sweep.specs.Rounds.{IsEquationMove, IsCongruenceMove};
+ghost use Rattle.nz_sweep.specs.Generating.{AreSetApart, IsEchelon};
+ghost use Rattle.nz_sweep.specs.GroupConstraints.{AreGroupConstraints};
 
+use crate::constraining::group_constraints;
 use crate::coordinates::{Coordinate, unit_coordinates};
 use crate::cutting::{multiples, zeros};
+use crate::generating::generated;
 use crate::inside::{is_combination, whole_coordinates};
 use crate::units::units;
-use nz_vec::{NoMemory, Num, Row, Scalar};
+use nz_vec::{Constraints, NoMemory, Num, Row, Rows, Scalar};
 use std::alloc::Global;
 use std::marker::Model;
 
@@ -40,7 +45,8 @@ impl<T: Scalar> Model for Basis<T> {
 impl<T: Scalar> Basis<T> {
     /// The lattice of all vectors of this width, by the unit vectors.
     pub fn whole(alloc: Global, width: usize) -> Result<Basis<T>, NoMemory>
-        ensures { IfOk result (λ b. (b.width ≡ width) × (b.vectors ≡ unit_vectors width) × (b.coordinates ≡ map unit_coordinate (unit_vectors width))) }
+        ensures units { IfOk result (λ b. (b.width ≡ width) × (b.vectors ≡ unit_vectors width) × (b.coordinates ≡ map unit_coordinate (unit_vectors width))) }
+        ensures echelon { IfOk result (λ b. IsEchelon b.vectors) }
     {
         let base = match units(alloc, width) {
             Ok(base) => base,
@@ -56,12 +62,43 @@ impl<T: Scalar> Basis<T> {
         }
     }
 
+    /// The lattice of the sums of the rows, by vectors in echelon form: column by column the entries
+    /// of the rows left are cleared by the least one, as in Euclid's algorithm, and the row that is
+    /// left with an entry is set apart. Which numbers make it Range is not stated.
+    pub fn of_generators(alloc: Global, width: usize, rows: &Rows<T>) -> Result<Basis<T>, Num>
+        requires { Each (HasWidth width) rows.now }
+        ensures width { IfOk result (λ b. b.width ≡ width) }
+        ensures same { IfOk result (λ b. (x : Vector) → IsInGroup width rows.now x ↔ IsInGroup width b.vectors x) }
+        ensures echelon { IfOk result (λ b. IsEchelon b.vectors) }
+        ensures steps { IfOk result (λ b. AreSetApart width 0 rows.now b.vectors) }
+    {
+        match generated(alloc, width, rows) {
+            Ok(generated) => Ok(Basis {
+                width,
+                base: generated.base,
+                coordinates: generated.coordinates,
+            }),
+            Err(refusal) => Err(refusal),
+        }
+    }
+
     /// The number of vectors.
     pub fn rank(&self) -> usize
         ensures count { result ≡ length self.now.vectors }
         ensures base { IsBase self.now }
     {
         self.base.len()
+    }
+
+    /// Constraints that exactly the vectors of the lattice meet: the equations of its vectors, and
+    /// then for each vector, where it is not 1, the value of its dual form there as a modulus of that
+    /// form. Which numbers make it Range is not stated.
+    pub fn lattice_constraints(&self, alloc: Global) -> Result<Constraints<T>, Num>
+        requires { IsEchelon self.now.vectors }
+        ensures forms { IfOk result (AreGroupConstraints self.now.width self.now.vectors) }
+        ensures members { IfOk result (λ c. (x : Vector) → HasWidth self.now.width x → MeetsAll c x ↔ IsInGroup self.now.width self.now.vectors x) }
+    {
+        group_constraints(alloc, self.width, self.base.as_slice())
     }
 
     /// Leaves of the lattice exactly the vectors at which the form is 0. The vectors are cleared at

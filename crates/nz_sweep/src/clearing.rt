@@ -74,7 +74,7 @@ pub(crate) fn clear_all<T: Scalar>(
 }
 
 // Each vector reduced by `own`.
-fn reduced_all<T: Scalar>(
+pub(crate) fn reduced_all<T: Scalar>(
     alloc: Global,
     width: usize,
     own: &Valued<T>,

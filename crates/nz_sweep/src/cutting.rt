@@ -199,7 +199,7 @@ fn cofactor<T: Scalar>(value: T, modulus: T) -> Option<T>
     modulus.floor_div(divisor)
 }
 
-fn times<T: Scalar>(alloc: Global, factor: T, row: &Row<T>) -> Result<Row<T>, Num>
+pub(crate) fn times<T: Scalar>(alloc: Global, factor: T, row: &Row<T>) -> Result<Row<T>, Num>
     ensures { MatchResult result (λ r. r ≡ scaled (T.integer factor) row.now) (λ e. e ≡ Num.Range → SomeNumberLarge T.HALF (λ n. (n ≡ T.integer factor) ⊎ Contains row.now n)) }
 {
     Row::combine(alloc, factor, row, T::of_i64(0), row)

@@ -6,10 +6,13 @@
 #![tactic(auto)]
 
 mod basis;
+mod bottom;
 mod clearing;
+mod constraining;
 mod coordinates;
 mod cutting;
 mod gathering;
+mod generating;
 mod inside;
 mod pivots;
 mod terms;

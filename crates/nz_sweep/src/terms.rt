@@ -89,7 +89,7 @@ fn with_term<T: Scalar>(terms: Terms<T>, term: T) -> Result<Terms<T>, NoMemory>
     }
 }
 
-fn is_below_zero<T: Scalar>(term: T) -> bool
+pub(crate) fn is_below_zero<T: Scalar>(term: T) -> bool
     ensures { IsTrue result ↔ (T.integer term <ℤ pos 0) }
 {
     term < T::of_i64(0)

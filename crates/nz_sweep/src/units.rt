@@ -24,7 +24,7 @@ pub(crate) fn units<T: Scalar>(alloc: Global, width: usize) -> Result<Vec<Row<T>
 }
 
 // The vector that is 1 at this place and else 0.
-fn unit<T: Scalar>(alloc: Global, width: usize, place: usize) -> Result<Row<T>, NoMemory>
+pub(crate) fn unit<T: Scalar>(alloc: Global, width: usize, place: usize) -> Result<Row<T>, NoMemory>
     ensures { IfOk result (λ u. u ≡ unit_at width place) }
 {
     let mut entries = match Vec::with_capacity(alloc, width) {
