@@ -1,0 +1,17 @@
+pub mod CellLaws
+pub mod ReplacedCells
+pub mod Overlap
+pub mod StepApart
+pub mod Generic
+pub mod StepCovers
+pub mod CornerLemmas
+pub mod ReplacedCorners
+pub mod AddedLemmas
+pub mod GoodCover
+pub mod PlacedLemmas
+pub mod FacetLaws
+pub mod ListingLemmas
+pub mod CoverLemmas
+pub mod OrderLemmas
+pub mod StageLemmas
+pub mod ToldLemmas

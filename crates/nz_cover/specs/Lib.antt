@@ -1,0 +1,6 @@
+pub mod Cells
+pub mod Steps
+pub mod Corners
+pub mod Listing
+pub mod Placed
+pub mod Placing
