@@ -13,3 +13,6 @@ mod placing;
 
 pub use covering::place;
 pub use listing::Cover;
+
+#[cfg(test)]
+mod tests;
