@@ -1,0 +1,5 @@
+pub mod DualStages
+pub mod FirstStage
+pub mod Sides
+pub mod PairSums
+pub mod Closures

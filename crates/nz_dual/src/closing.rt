@@ -1,0 +1,110 @@
+// Both sides of a new row, until no sum of one element of each is left to be looked at.
+ghost use Rattle.std.specs.Prelude.{◌≡◌, ◌<◌, ◌++◌, ◌^◌, length, Contains, MatchResult};
+ghost use Rattle.std.specs.List.{AllByRecursion as Each};
+ghost use Rattle.nz_spec.specs.Vectors.{HasWidth};
+ghost use Rattle.nz_dual.specs.DualStages.{IsInsertRefusal};
+ghost use Rattle.nz_dual.specs.Sides.{IsSide, Keeps, Handles, HasGrown};
+ghost use Rattle.nz_range.specs.Measures.{SomeLarge};
+ghost use Rattle.nz_dual.specs.PairSums.{IsNext, AreOneWidth, AreSums};
+ghost use Rattle.nz_dual.specs.Closures.{IsPart, IsComplete, IsOfferedRefusal};
+
+use crate::sides::{Side, work_of};
+use crate::sums::{next_degree, sums_of};
+use nz_vec::{Num, Rows, Scalar, Work};
+use std::alloc::Global;
+
+/// Offers each of the vectors to both sides.
+pub(crate) fn offer_all<T: Scalar>(
+    alloc: Global,
+    rows: &Rows<T>,
+    vectors: &Rows<T>,
+    up: &mut Side<T>,
+    down: &mut Side<T>,
+    limit: u32,
+) -> Result<(), Work>
+    requires rows_wide { Each (HasWidth (length up.old.last)) rows.now }
+    requires width { length down.old.last ≡ length up.old.last }
+    requires widths { Each (HasWidth (length up.old.last)) vectors.now }
+    requires up { IsSide limit rows.now up.old }
+    requires down { IsSide limit rows.now down.old }
+    requires keeps_up { Each (Keeps rows.now up.old.last up.old.elements) vectors.now }
+    requires keeps_down { Each (Keeps rows.now down.old.last down.old.elements) vectors.now }
+    ensures { MatchResult result (λ _. HasGrown limit rows.now up.old up.new × HasGrown limit rows.now down.old down.new × Each (Handles rows.now up.old.last up.new.elements) vectors.now × Each (Handles rows.now down.old.last down.new.elements) vectors.now) (IsOfferedRefusal T.HALF limit rows.now up.old.last down.old.last (Contains vectors.now)) }
+{
+    for place in 0..vectors.len() {
+        match up.offer(alloc, rows, vectors.at(place), limit) {
+            Ok(()) => {}
+            Err(refusal) => return Err(refusal),
+        }
+        match down.offer(alloc, rows, vectors.at(place), limit) {
+            Ok(()) => {}
+            Err(refusal) => return Err(refusal),
+        }
+    }
+    Ok(())
+}
+
+/// Offers the sums of two elements, one of each side and both rising there, degree by degree. What
+/// is added by one degree makes sums of greater degree only, so after each degree both sides have
+/// all their irreducibles up to it, and nothing reducible is ever kept (Bruns and Ichim,
+/// "Normaliz: algorithms for affine monoids and rational cones").
+pub(crate) fn close<T: Scalar>(
+    alloc: Global,
+    rows: &Rows<T>,
+    up: &mut Side<T>,
+    down: &mut Side<T>,
+    limit: u32,
+) -> Result<(), Work>
+    requires { IsPart limit rows.now up.old down.old }
+    ensures { MatchResult result (λ _. IsComplete limit rows.now up.new × IsComplete limit rows.now down.new × (up.new.last ≡ up.old.last) × (down.new.last ≡ down.old.last)) (IsInsertRefusal T.HALF limit (length up.old.last) rows.now up.old.last) }
+{
+    let mut last: u128 = 0;
+    'degrees: loop {
+        let degree = match next_of(up, down, last) {
+            Some(degree) => degree,
+            None => return Ok(()),
+        };
+        let sums = match sums_between(alloc, up, down, degree) {
+            Ok(sums) => sums,
+            Err(refusal) => return Err(work_of(refusal)),
+        };
+        match offer_all(alloc, rows, &sums, up, down, limit) {
+            Ok(()) => {}
+            Err(refusal) => return Err(refusal),
+        }
+        last = degree;
+    }
+}
+
+/// The least degree above the last of a sum of two elements, one of each side and both rising there.
+fn next_of<T: Scalar>(up: &Side<T>, down: &Side<T>, last: u128) -> Option<u128>
+    requires up { Each (λ d. d < 2 ^ 127) up.now.degrees }
+    requires down { Each (λ d. d < 2 ^ 127) down.now.degrees }
+    ensures { IsNext last up.now.degrees down.now.degrees result }
+{
+    next_degree(up.degrees.as_slice(), down.degrees.as_slice(), last)
+}
+
+/// The sums of this degree of two elements, one of each side and both rising there.
+fn sums_between<T: Scalar>(
+    alloc: Global,
+    up: &Side<T>,
+    down: &Side<T>,
+    degree: u128,
+) -> Result<Rows<T>, Num>
+    requires up_lengths { length up.now.degrees ≡ length up.now.rising }
+    requires down_lengths { length down.now.degrees ≡ length down.now.rising }
+    requires up { Each (λ d. d < 2 ^ 127) up.now.degrees }
+    requires down { Each (λ d. d < 2 ^ 127) down.now.degrees }
+    requires widths { AreOneWidth up.now.rising down.now.rising }
+    ensures { MatchResult result (AreSums up.now.rising up.now.degrees down.now.rising down.now.degrees degree (length up.now.rising)) (λ e. e ≡ Num.Range → SomeLarge T.HALF (Contains (up.now.rising ++ down.now.rising))) }
+{
+    sums_of(
+        alloc,
+        &up.rising,
+        up.degrees.as_slice(),
+        &down.rising,
+        down.degrees.as_slice(),
+        degree,
+    )
+}

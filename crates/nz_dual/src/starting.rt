@@ -1,0 +1,125 @@
+// The list of the first stage, from the rays of its rows.
+ghost use Rattle.std.specs.Prelude.{◌≡◌, ◌++◌, ◌≤◌, ◌<◌, length, Contains, IfOk, OnOk, MatchResult};
+ghost use Rattle.std.specs.List.{AllByRecursion as Each, AllZip};
+ghost use Rattle.nz_spec.specs.Covers.{vectors_at};
+ghost use Rattle.nz_spec.specs.Order.{IsLexBefore, IsListOf};
+ghost use Rattle.nz_vec.specs.Primitives.{IsPrimitivePart};
+ghost use Rattle.nz_range.specs.Measures.{SomeLarge};
+ghost use Rattle.nz_classes.specs.Walks.{IsFullSimplex};
+ghost use Rattle.nz_dual.specs.DualStages.{IsElement};
+ghost use Rattle.nz_dual.specs.FirstStage.{AreCandidates, IsStartRefusal};
+
+use crate::sides::{within, work_of};
+use nz_classes::walk;
+use nz_reducer::irreducibles;
+use nz_vec::{NoMemory, Num, Places, Rows, Scalar, Work};
+use std::alloc::Global;
+
+/// Copies of the rows at these places.
+pub(crate) fn rows_at<T: Scalar>(
+    alloc: Global,
+    rows: &Rows<T>,
+    places: &Places,
+) -> Result<Rows<T>, NoMemory>
+    requires { Each (λ k. k < length rows.now) places.now }
+    ensures { IfOk result (λ r. r ≡ vectors_at rows.now places.now) }
+{
+    let mut copies = Rows::new(alloc);
+    for index in 0..places.len() {
+        let copy = match rows.at(places.at(index)).try_copy() {
+            Ok(copy) => copy,
+            Err(refusal) => return Err(refusal),
+        };
+        match copies.push(copy) {
+            Ok(()) => {}
+            Err(refusal) => return Err(refusal),
+        }
+    }
+    Ok(copies)
+}
+
+/// The irreducibles of the first stage, lexicographically. Each vector of the stage is a sum of rays
+/// with whole factors and a vector of their half-open parallelepiped, so the irreducibles are what no
+/// other of these vectors reduces.
+pub(crate) fn first_list<T: Scalar>(
+    alloc: Global,
+    rows: &Rows<T>,
+    rays: &Rows<T>,
+    limit: u32,
+) -> Result<Rows<T>, Work>
+    requires { IsFullSimplex rays.now rows.now }
+    ensures { MatchResult result (λ list. IsListOf IsLexBefore (IsElement (length rays.now) rows.now) list × (length list ≤ limit)) (IsStartRefusal T.HALF limit (length rays.now) rows.now rays.now) }
+{
+    let candidates = match candidates_of(alloc, rows, rays, limit) {
+        Ok(candidates) => candidates,
+        Err(refusal) => return Err(refusal),
+    };
+    let list = match irreducibles(alloc, &candidates, rows) {
+        Ok(list) => list,
+        Err(refusal) => return Err(work_of(refusal)),
+    };
+    match within(list.len(), limit) {
+        Ok(()) => {}
+        Err(refusal) => return Err(refusal),
+    }
+    Ok(list)
+}
+
+/// The vectors of the half-open parallelepiped, and the rays.
+fn candidates_of<T: Scalar>(
+    alloc: Global,
+    rows: &Rows<T>,
+    rays: &Rows<T>,
+    limit: u32,
+) -> Result<Rows<T>, Work>
+    requires { IsFullSimplex rays.now rows.now }
+    ensures { MatchResult result (AreCandidates rays.now) (IsStartRefusal T.HALF limit (length rays.now) rows.now rays.now) }
+{
+    let forms = match primitives(alloc, rows) {
+        Ok(forms) => forms,
+        Err(refusal) => return Err(work_of(refusal)),
+    };
+    let mut candidates = match walk(alloc, rays, &forms, limit) {
+        Ok(points) => points,
+        Err(refusal) => return Err(refusal),
+    };
+    match append(&mut candidates, rays) {
+        Ok(()) => Ok(candidates),
+        Err(refusal) => Err(Work::from(refusal)),
+    }
+}
+
+/// The rows, each divided by the gcd of its entries.
+fn primitives<T: Scalar>(alloc: Global, rows: &Rows<T>) -> Result<Rows<T>, Num>
+    ensures { MatchResult result (AllZip IsPrimitivePart rows.now) (λ e. e ≡ Num.Range → SomeLarge T.HALF (Contains rows.now)) }
+{
+    let mut forms = Rows::new(alloc);
+    for place in 0..rows.len() {
+        let form = match rows.at(place).primitive() {
+            Ok(form) => form,
+            Err(refusal) => return Err(refusal),
+        };
+        match forms.push(form) {
+            Ok(()) => {}
+            Err(refusal) => return Err(Num::from(refusal)),
+        }
+    }
+    Ok(forms)
+}
+
+/// Puts copies of the others behind the list.
+fn append<T: Scalar>(list: &mut Rows<T>, others: &Rows<T>) -> Result<(), NoMemory>
+    ensures { OnOk result (list.new ≡ list.old ++ others.now) }
+{
+    for place in 0..others.len() {
+        let copy = match others.at(place).try_copy() {
+            Ok(copy) => copy,
+            Err(refusal) => return Err(refusal),
+        };
+        match list.push(copy) {
+            Ok(()) => {}
+            Err(refusal) => return Err(refusal),
+        }
+    }
+    Ok(())
+}
