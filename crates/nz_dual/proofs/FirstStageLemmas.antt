@@ -17,6 +17,7 @@ use Rattle.nz_spec.proofs.ListLaws.{Each-contains, Each-from_contains, Each-weak
 use Rattle.nz_spec.proofs.SumLaws.{IsInCone-box, length-combination}
 use Rattle.nz_spec.proofs.VectorLaws.{IsZero-zero_vector, length-scaled, length-minus}
 use Rattle.nz_linear.specs.DualPairs.{Pair, pair_of, divisor, product, IsApart, HasWidths, IsDual, IsDualPair, OnlyZero, IsCompleteOn}
+use Rattle.nz_linear.proofs.Dependence.{complete_length}
 use Rattle.nz_linear.proofs.Elimination.{all_of_width, complete_of}
 use Rattle.nz_linear.proofs.DualPairs.{product_positive, length-factors, spread_is, expansion, dual_independent}
 use Rattle.nz_linear.proofs.Lists.{each_map, each_map2, each_append, each_of_map, map_each}
@@ -173,3 +174,17 @@ first_stage w rows rays chosen list places ew ec s l =
       positive = positive_stage chosen rays f;
       lists = IsListOf-once IsLexBefore lex_irreflexive (IsElement (length rays) chosen) list l;
     })
+
+-- a simplex has as many places as its vectors have entries
+pub own_width : (w : ℕ) (rows rays : List Vector) (places : List ℕ) → pointed.IsSimplexOf w rows places rays → w ≡ length places
+own_width w rows rays places s =
+    let fs = vectors_at rows places in
+    let lf : length fs ≡ length places = length-map places (λ p. get_or rows p []) in
+    let l : length fs ≡ length rays = lf ∙ sym s.one_each in
+    let e = same_pairs fs rays in
+    let d : IsDualPair w (paired fs rays) = subst (λ (ps : List Pair). IsDualPair w ps) e s.dual in
+    let o : OnlyZero w (paired fs rays) = subst (λ (ps : List Pair). OnlyZero w ps) e s.only_zero in
+    sym (complete_length w (paired fs rays) d o) ∙ length-paired fs rays l ∙ s.one_each
+
+pub at_own_width : (w : ℕ) (rows rays : List Vector) (places : List ℕ) → pointed.IsSimplexOf w rows places rays → pointed.IsSimplexOf (length places) rows places rays
+at_own_width w rows rays places s = subst (λ (n : ℕ). pointed.IsSimplexOf n rows places rays) (own_width w rows rays places s) s

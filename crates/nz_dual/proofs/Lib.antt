@@ -6,3 +6,9 @@ pub mod ClosureLemmas
 pub mod StageLemmas
 pub mod FirstStageLemmas
 pub mod StartFormLemmas
+pub mod FiniteLemmas
+pub mod OrderLemmas
+pub mod RunLemmas
+pub mod RefusalLemmas
+pub mod InsertionLemmas
+pub mod WholeLemmas

@@ -1,9 +1,12 @@
 -- A stage with one row more.
 use Rattle.std.proofs.Common.{◌≡◌, ◌≢◌, ⊎_elim, inl, ℕ, ◌≤◌, List, [], ◌∷◌, ◌++◌, length, ℤ, pos, ◌<ℤ◌, Contains, refl, sym, ap, ◌∙◌, subst}
-use Rattle.std.specs.Prelude.{Result, Ok, Err, IfOk}
+use Rattle.std.specs.Prelude.{Result, Ok, Err, IfOk, None}
 use Rattle.std.specs.List.{AllByRecursion as Each}
 use Rattle.nz_spec.specs.Vectors.{Vector, opposite, HasWidth}
-use Rattle.nz_spec.specs.Order.{ListsOnce}
+use Rattle.std.specs.List.Sorted.{IsPermutation}
+use Rattle.nz_spec.specs.Order.{IsLexBefore, IsListOf, ListsOnce}
+use Rattle.nz_degree.specs.Degrees.{IsInOrder}
+use Rattle.nz_degree.proofs.ElementLaws.{sorted_is_list}
 use Rattle.nz_spec.proofs.ListLaws.{Each-contains, Each-weaker}
 use Rattle.nz_order.proofs.SortLaws.{IsListOf-where, Each-append, Each-front}
 use Rattle.nz_vec.specs.declared.answers.Num.{Num}
@@ -90,3 +93,14 @@ stage_next limit w rows list row new_rows ups downs e s l n = subst (λ (rs : Li
 -- what is said of the rows inside is said of the stage as it is seen
 pub seen : (P : ℕ → List Vector → Type 0) (n w : ℕ) (rows inside : List Vector) → n ≡ w → inside ≡ rows → P n inside → P w rows
 seen P n w rows inside e f p = subst (λ (k : ℕ). P k rows) e (subst (P n) f p)
+
+-- the list in order
+pub sorted_stage : (w : ℕ) (rows list sorted : List Vector) → IsStageList w rows list → IsPermutation list sorted → IsInOrder None sorted → IsListOf IsLexBefore (IsElement w rows) sorted
+sorted_stage w rows list sorted s moved order =
+    let wide = Each-weaker (IsElement w rows) (HasWidth w) (λ v i. i.member.in_lattice) list s.lists.only in
+    let q = sorted_is_list w None list sorted wide s.lists.in_order moved order in
+    record {
+      in_order = q.in_order;
+      only = Each-weaker (Contains list) (IsElement w rows) (λ v c. Each-contains (IsElement w rows) list v s.lists.only c) sorted q.only;
+      each = λ x i. q.each x (s.lists.each x i);
+    }

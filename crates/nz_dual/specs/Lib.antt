@@ -3,3 +3,5 @@ pub mod FirstStage
 pub mod Sides
 pub mod PairSums
 pub mod Closures
+pub mod Runs
+pub mod Refusals

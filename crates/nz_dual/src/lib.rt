@@ -6,10 +6,13 @@
 #![tactic(auto)]
 
 mod closing;
+mod ordering;
+mod running;
 mod sides;
 mod stages;
 mod starting;
 mod sums;
 mod values;
 
+pub use running::dual;
 pub use stages::Stage;

@@ -1,8 +1,8 @@
-ghost use Rattle.std.specs.Prelude.{◌≡◌, ◌∷◌, ◌++◌, [], ◌≤◌, ◌<ℤ◌, pos, length, OnOk, OnErr, IfOk, IfErr, MatchResult};
+ghost use Rattle.std.specs.Prelude.{◌≡◌, ◌∷◌, ◌++◌, [], ◌≤◌, ◌<ℤ◌, pos, length, None, OnOk, OnErr, IfOk, IfErr, MatchResult};
 ghost use Rattle.nz_spec.specs.Vectors.{opposite};
 ghost use Rattle.nz_range.specs.Measures.{measure};
 ghost use Rattle.nz_spec.specs.Covers.{vectors_at};
-ghost use Rattle.nz_spec.specs.Order.{ListsOnce};
+ghost use Rattle.nz_spec.specs.Order.{IsLexBefore, IsListOf, ListsOnce};
 ghost use Rattle.nz_pointed.specs.Pointed.{IsSimplexOf};
 ghost use Rattle.nz_dual.specs.DualStages.{IsStage, IsStageList, AreLists, IsElement, IsReversedElement, IsInsertRefusal};
 ghost use Rattle.nz_dual.specs.FirstStage.{IsStartRefusal};
@@ -12,6 +12,7 @@ use crate::closing::{close, offer_all};
 use crate::sides::{Side, work_of};
 use crate::starting::{first_list, rows_at};
 use crate::values::opposite;
+use nz_degree::sort;
 use nz_pointed::Simplex;
 use nz_vec::{NoMemory, Num, Row, Rows, Scalar, Work};
 use std::alloc::Global;
@@ -114,6 +115,31 @@ impl<T: Scalar> Stage<T> {
     {
         &self.reversed
     }
+
+    /// How many rows there are so far.
+    pub(crate) fn number(&self) -> usize
+        ensures { result ≡ length self.now.rows }
+    {
+        self.rows.len()
+    }
+
+    /// The list alone, lexicographically.
+    pub(crate) fn into_sorted(self, alloc: Global) -> Result<Rows<T>, NoMemory>
+        ensures { IfOk result (λ list. IsListOf IsLexBefore (IsElement self.width self.rows) list) }
+    {
+        let mut list = self.list;
+        match sort(alloc, &mut list, no_grading()) {
+            Ok(()) => Ok(list),
+            Err(_) => Err(NoMemory),
+        }
+    }
+}
+
+/// Vectors are sorted by no degree.
+fn no_grading<'a, T: Scalar>() -> Option<&'a Row<T>>
+    ensures { result ≡ None }
+{
+    None
 }
 
 /// The list of a stage, and the reversed one.
