@@ -22,4 +22,6 @@ mod valued;
 pub use basis::Basis;
 
 #[cfg(test)]
+mod generating_tests;
+#[cfg(test)]
 mod tests;
