@@ -1,21 +1,20 @@
 -- The simplices added with one facet after another, and with one old simplex after another.
-use Rattle.std.proofs.Common.{◌≡◌, ◌≢◌, ◌⊎◌, inl, inr, ⊎_elim, ℕ, zero, suc, ◌+◌, ◌<◌, ◌≤◌, List, [], ◌∷◌, ◌++◌, length, map, take, get_or, ℤ, pos, neg_ℤ, ◌-ℤ◌, ◌≤ℤ◌, ◌<ℤ◌, refl, sym, ap, ◌∙◌, subst, append_assoc, append-nil, arith}
+use Rattle.std.proofs.Common.{◌≡◌, ◌≢◌, ◌⊎◌, inl, inr, ⊎_elim, ℕ, zero, suc, ◌+◌, ◌<◌, ◌≤◌, List, [], ◌∷◌, ◌++◌, length, map, take, get_or, ℤ, pos, neg_ℤ, ◌-ℤ◌, ◌<ℤ◌, refl, sym, ap, ◌∙◌, subst, append_assoc, append-nil, arith}
 use Rattle.std.proofs.lemmas.List.{map-append, take_more, take_all}
 use Rattle.std.proofs.lemmas.List.Elements.{Contains-append_left, Contains-append_right, Contains-append_cases}
-use Rattle.std.specs.List.{AllByRecursion as Each, AllZip, Contains}
+use Rattle.std.specs.List.{AllByRecursion as Each, Contains}
 use Rattle.nz_spec.specs.Vectors.{Vector, dot}
 use Rattle.nz_spec.specs.Order.{Pairwise}
 use Rattle.std.proofs.lemmas.Int.{ints}
 use Rattle.nz_spec.proofs.EquationLaws.{dot_comm}
 use Rattle.nz_spec.proofs.ListLaws.{contains_here, contains_there, contains_cases, contains_none, Each-contains}
 use Rattle.nz_linear.specs.DualPairs.{Pair}
-use Rattle.nz_linear.proofs.Ring.{sums}
 use Rattle.nz_linear.proofs.Lists.{each_map, each_append, map_each, zip_append}
 use Rattle.nz_range.specs.Measures.{AreLargeFor}
 use Rattle.nz_range.proofs.Causes.{large_within}
 use Rattle.nz_cover.specs.Cells.{IsCell}
 use Rattle.nz_cover.specs.Steps.{IsReplaced, Source, IsSource, AreAdded}
-use Rattle.nz_cover.specs.Corners.{Vertex, vertex, places_of, forms_of, pairs_of, cells_of, AreInOrder, IsReplacedAt, IsPlaceOf, IsExtended, Appends, all_forms, AreReady}
+use Rattle.nz_cover.specs.Corners.{Vertex, places_of, forms_of, pairs_of, cells_of, AreInOrder, IsReplacedAt, IsPlaceOf, IsExtended, Appends, all_forms, AreReady}
 use Rattle.nz_cover.proofs.StepApart.{pairwise_append}
 
 -- ---- sources

@@ -1,9 +1,9 @@
 -- All rays placed: the simplices in order are a good cover of their cone, with the dual forms of each.
-use Rattle.std.proofs.Common.{◌≡◌, ◌≢◌, ℕ, zero, suc, ◌<◌, List, [], ◌∷◌, length, map, get_or, refl, sym, ap, ◌∙◌, subst, arith}
+use Rattle.std.proofs.Common.{◌≡◌, ◌≢◌, ℕ, suc, ◌<◌, List, [], ◌∷◌, length, map, get_or, refl, sym, ap, ◌∙◌, subst, arith}
 use Rattle.std.specs.List.{AllByRecursion as Each, AllZip, Contains}
 use Rattle.std.proofs.lemmas.List.{length-map}
 use Rattle.std.proofs.lemmas.List.Sorted.{Contains-permutation, IsPermutation-sym}
-use Rattle.nz_spec.specs.Vectors.{Vector, HasWidth, IsZero}
+use Rattle.nz_spec.specs.Vectors.{Vector, IsZero}
 use Rattle.nz_spec.specs.Sums.{IsInside}
 use Rattle.nz_spec.specs.Order.{Pairwise, IsLexLess}
 use Rattle.nz_spec.specs.Forms.{AreDualForms}
@@ -14,7 +14,7 @@ use Rattle.nz_linear.proofs.Lists.{each_map, map_each}
 use Rattle.nz_linear.proofs.Dependence.{complete_length}
 use Rattle.nz_rays.specs.Descriptions.{RowsAndRays}
 use Rattle.nz_cover.specs.Cells.{IsCell, AreApart, AreCells}
-use Rattle.nz_cover.specs.Corners.{Vertex, places_of, forms_of, pairs_of, cells_of, AreInOrder}
+use Rattle.nz_cover.specs.Corners.{Vertex, places_of, forms_of, pairs_of, cells_of}
 use Rattle.nz_cover.specs.Listing.{AreDistinct, AreListed}
 use Rattle.nz_cover.specs.Placed.{ArePlaced, ArePlacedUpTo}
 use Rattle.nz_cover.specs.Placing.{ArePlaceable, IsInConeOf, IsPlaced}

@@ -1,8 +1,8 @@
 -- The facets of placed rays are their support forms: how many there are, and that they are normal forms.
-use Rattle.std.proofs.Common.{◌≡◌, ◌≢◌, ◌↔◌, inl, inr, ⊎_elim, ℕ, suc, ◌<◌, List, [], ◌∷◌, ◌++◌, length, get_or, ℤ, pos, ◌≤ℤ◌, ◌<ℤ◌, refl, sym, ap, ◌∙◌, subst, arith}
+use Rattle.std.proofs.Common.{◌≡◌, ◌≢◌, inl, inr, ⊎_elim, ℕ, suc, ◌<◌, List, [], ◌∷◌, ◌++◌, length, get_or, ℤ, refl, sym, subst, arith}
 use Rattle.std.specs.List.{AllByRecursion as Each, Contains}
-use Rattle.nz_spec.specs.Vectors.{Vector, dot, zero_vector, HasWidth}
-use Rattle.nz_spec.specs.Sums.{IsInSpan, IsIndependent, HasRank}
+use Rattle.nz_spec.specs.Vectors.{Vector, zero_vector, HasWidth}
+use Rattle.nz_spec.specs.Sums.{IsInSpan, IsIndependent}
 use Rattle.nz_spec.specs.Order.{Pairwise, IsListOf, HasNumber}
 use Rattle.nz_spec.specs.Forms.{IsOtherColumn, IsDualForm, IsNormalForm, IsSupportForm}
 use Rattle.nz_spec.proofs.ListLaws.{Each-contains, Each-from_contains}
@@ -65,16 +65,19 @@ support_is_normal w vs all f lv span within s = ⊎_elim (λ z. absurd (s.not_al
           vectors = u ∷ us;
           of_list = each_map (Contains vs) (Contains all) (u ∷ us) (λ x k. Each-contains (Contains all) vs x within k) members;
           independent = free;
-          kind = inl (u, record {
-            earlier = [];
-            later = us;
-            whole = refl;
-            width = s.width;
-            primitive = s.primitive;
-            zero_at = λ j o. absurd (no_other_column w (u ∷ us) j whole o);
-            positive = t.positive;
-            zero_on = s.facet.zero_on;
-          });
+          kind = inl (
+            u,
+            record {
+              earlier = [];
+              later = us;
+              whole = refl;
+              width = s.width;
+              primitive = s.primitive;
+              zero_at = λ j o. absurd (no_other_column w (u ∷ us) j whole o);
+              positive = t.positive;
+              zero_on = s.facet.zero_on;
+            },
+          );
         }
 
 -- ---- what is large in a step is a normal form of the rays, or a ray at one

@@ -1,13 +1,13 @@
 -- From simplices that cover a cone without overlap to a good cover with its forms, and their start.
-use Rattle.std.proofs.Common.{◌≡◌, ◌≢◌, ◌⊎◌, inl, inr, ⊎_elim, ℕ, zero, suc, ◌<◌, List, [], ◌∷◌, ◌++◌, length, map, get_or, ℤ, pos, ◌≤ℤ◌, ◌<ℤ◌, refl, sym, ap, ◌∙◌, subst, append_assoc, arith}
+use Rattle.std.proofs.Common.{◌≡◌, ◌≢◌, ⊎_elim, ℕ, suc, ◌<◌, List, [], ◌∷◌, ◌++◌, length, map, get_or, pos, refl, sym, ap, ◌∙◌, subst, append_assoc, arith}
 use Rattle.std.specs.List.{AllByRecursion as Each, AllZip, Contains}
-use Rattle.nz_spec.specs.Vectors.{Vector, dot, entry, HasWidth, IsNonzero, IsPrimitive}
+use Rattle.nz_spec.specs.Vectors.{Vector, dot, HasWidth, IsNonzero, IsPrimitive}
 use Rattle.nz_spec.specs.Sums.{IsInSpan, IsInCone, IsInside, IsIndependent, HasRank}
 use Rattle.nz_spec.specs.Order.{Pairwise, IsLexLess}
 use Rattle.nz_spec.specs.Forms.{IsOtherColumn, IsDualForm, AreDualForms}
 use Rattle.nz_spec.specs.Covers.{vectors_at, IsSimplex, Holds, IsGoodCover}
 use Rattle.nz_spec.proofs.ListLaws.{contains_here, contains_there, contains_cases, contains_none, Each-contains}
-use Rattle.nz_linear.specs.DualPairs.{Pair, pair_of, divisor, IsApart, HasWidths, IsDual, IsDualPair}
+use Rattle.nz_linear.specs.DualPairs.{Pair, IsApart, HasWidths, IsDual}
 use Rattle.std.proofs.lemmas.List.{map-append}
 use Rattle.nz_linear.specs.Echelon.{unit_at}
 use Rattle.nz_linear.proofs.Ring.{sums}
@@ -16,7 +16,7 @@ use Rattle.nz_linear.proofs.Lists.{each_map, each_map2, each_append, each_of_map
 use Rattle.nz_linear.proofs.DualPairs.{dual_independent}
 use Rattle.nz_linear.proofs.Dependence.{complete_length}
 use Rattle.nz_linear.proofs.ConeMembers.{cone_of_members}
-use Rattle.nz_cover.specs.Cells.{IsCell, IsAt, IsWithin, IsOf, AreApart, HasCellAt, AreCells}
+use Rattle.nz_cover.specs.Cells.{IsCell, IsAt, IsWithin, IsOf, AreApart, AreCells}
 use Rattle.nz_cover.specs.Corners.{Vertex, places_of, forms_of, pairs_of, cells_of, AreInOrder}
 use Rattle.nz_cover.specs.Placing.{ArePlaceable, IsInConeOf}
 use Rattle.nz_cover.proofs.CellLaws.{vectors_of, cell_span, cell_cone, cell_inside}

@@ -16,7 +16,7 @@ use mathlib.Core.Bool.{true≢false}
 use Rattle.nz_spec.specs.Vectors.{Vector}
 use Rattle.nz_spec.specs.Order.{Pairwise, IsLexLess, ListsOnce}
 use Rattle.nz_spec.proofs.ListLaws.{Each-contains, Each-from_contains}
-use Rattle.nz_linear.proofs.Lists.{each_append, each_of_map, map_each}
+use Rattle.nz_linear.proofs.Lists.{each_append}
 use Rattle.nz_order.proofs.SortLaws.{permuted_once, Pairwise-neighbours}
 use Rattle.nz_cover.specs.Corners.{Vertex, places_of, forms_of}
 use Rattle.nz_cover.specs.Listing.{IsKeyIn, AreKeys, AreDistinct, AreListed}
@@ -161,7 +161,7 @@ module _ (cells : List (List Vertex)) (keys sorted : List Key) (k : AreKeys cell
         let ir = each_at (IsKeyIn cells) sorted i e each_sorted (omega (arith, l)) in
         let is = each_at (IsKeyIn cells) sorted (suc i) e each_sorted l in
         lex_less_from (g r) (g s) (size_at r ir ∙ sym (size_at s is)) (pairwise_next (λ a b. g a ≢ g b) sorted i e (differ d.different) l)
-            (λ h. no (order s r) (finds s r (subst (λ (t : List ℕ). IsLexLess ◌<◌ t r.places.items) (sym is.places) (subst (λ (t : List ℕ). IsLexLess ◌<◌ (g s) t) (sym ir.places) h))) (subst (λ (k : ℕ). is_lt (order (get_or sorted k e) r) ≡ false) (step i) (is_sorted i e (omega arith) (omega (arith, l)))))
+        (λ h. no (order s r) (finds s r (subst (λ (t : List ℕ). IsLexLess ◌<◌ t r.places.items) (sym is.places) (subst (λ (t : List ℕ). IsLexLess ◌<◌ (g s) t) (sym ir.places) h))) (subst (λ (k : ℕ). is_lt (order (get_or sorted k e) r) ≡ false) (step i) (is_sorted i e (omega arith) (omega (arith, l)))))
 
     pub in_order : Pairwise (IsLexLess ◌<◌) (map g sorted)
     in_order = pairwise_map g (IsLexLess ◌<◌) sorted (Pairwise-neighbours (λ r s. IsLexLess ◌<◌ (g r) (g s)) (λ r s t. lex_transitive (g r) (g s) (g t)) sorted next)

@@ -25,7 +25,7 @@ use Rattle.nz_pointed.specs.Pointed.{IsNew, AreFirstIndependent}
 use Rattle.nz_pointed.proofs.ListLemmas.{each_take, pairwise_push}
 use Rattle.nz_range.proofs.Causes.{each_own as own_members}
 use Rattle.nz_rays.proofs.CutLemmas.{same_or_not}
-use Rattle.nz_cover.specs.Placed.{IsLeft}
+use Rattle.nz_cover.specs.Passing.{IsLeft}
 use Rattle.nz_cover.specs.Placing.{ArePlaceable}
 use Rattle.nz_cover.proofs.AddedLemmas.{contains_get}
 use Rattle.nz_cover.proofs.CellLaws.{vectors_of, cell_span}
@@ -130,23 +130,23 @@ module _ (w : ℕ) (rows : List Vector) (wide : Each (HasWidth w) rows) where
       let more : length (front ++ v ∷ []) ≡ suc i = length_push front v ∙ omega (arith, size) in
       elim (held_or_not ps i) [
         | inl k ↦ (
-          let is = (Each-contains (NewFrom i) ps i new.only k).1 in
-          let h = head_of (NewFrom i) i ps new (omega arith, is) (λ q a. a.0) in
-          let tail : IsListOf ◌<◌ (NewFrom (suc i)) h.tail = list_change (λ q. NewFrom i q × (i < q)) (NewFrom (suc i)) h.tail (λ q a. let b = a.1 in (omega (arith, b), a.0.1)) (λ q a. let b = a.0 in ((omega (arith, b), a.1), omega (arith, b))) h.lists in
-          let others : IsListOf ◌<◌ (IsOld (suc i)) rs = list_change (IsOld i) (IsOld (suc i)) rs (λ q a. record { from = ⊎_elim (λ s. absurd (a.old (subst (IsNew w rows) s is))) (λ s. let b = a.from in above i q b s) (same_or_not i q); below = a.below; old = a.old }) (λ q a. record { from = (let b = a.from in omega (arith, b)); below = a.below; old = a.old }) old in
-          let rest = separate suffix (front ++ v ∷ []) (v ∷ earlier) (suc i) h.tail rs next more m.there m.back tail others in
-          let is_fresh : IsFreshVector w earlier v = λ s. is.independent (subst (λ (xs : List Vector). IsInSpan w xs (get_or rows i [])) (sym before) (subst (IsInSpan w front) (sym here) (span_of_members w earlier front v wide_front there s))) in
-          subst (λ (xs : List ℕ). Separates (IsFreshVector w) earlier (v ∷ suffix) (vectors_at rows xs) (vectors_at rows rs)) (sym h.whole)
-              (subst (λ (x : Vector). Separates (IsFreshVector w) earlier (v ∷ suffix) (x ∷ vectors_at rows h.tail) (vectors_at rows rs)) (sym here) (fresh is_fresh rest)))
+            let is = (Each-contains (NewFrom i) ps i new.only k).1 in
+            let h = head_of (NewFrom i) i ps new (omega arith, is) (λ q a. a.0) in
+            let tail : IsListOf ◌<◌ (NewFrom (suc i)) h.tail = list_change (λ q. NewFrom i q × (i < q)) (NewFrom (suc i)) h.tail (λ q a. let b = a.1 in (omega (arith, b), a.0.1)) (λ q a. let b = a.0 in ((omega (arith, b), a.1), omega (arith, b))) h.lists in
+            let others : IsListOf ◌<◌ (IsOld (suc i)) rs = list_change (IsOld i) (IsOld (suc i)) rs (λ q a. record { from = ⊎_elim (λ s. absurd (a.old (subst (IsNew w rows) s is))) (λ s. let b = a.from in above i q b s) (same_or_not i q); below = a.below; old = a.old }) (λ q a. record { from = (let b = a.from in omega (arith, b)); below = a.below; old = a.old }) old in
+            let rest = separate suffix (front ++ v ∷ []) (v ∷ earlier) (suc i) h.tail rs next more m.there m.back tail others in
+            let is_fresh : IsFreshVector w earlier v = λ s. is.independent (subst (λ (xs : List Vector). IsInSpan w xs (get_or rows i [])) (sym before) (subst (IsInSpan w front) (sym here) (span_of_members w earlier front v wide_front there s))) in
+            subst (λ (xs : List ℕ). Separates (IsFreshVector w) earlier (v ∷ suffix) (vectors_at rows xs) (vectors_at rows rs)) (sym h.whole)
+            (subst (λ (x : Vector). Separates (IsFreshVector w) earlier (v ∷ suffix) (x ∷ vectors_at rows h.tail) (vectors_at rows rs)) (sym here) (fresh is_fresh rest)))
         | inr n ↦ (
-          let not_new : ¬ IsNew w rows i = λ is. n (new.each i (omega arith, is)) in
-          let h = head_of (IsOld i) i rs old (record { from = omega arith; below = within; old = not_new }) (λ q a. a.from) in
-          let tail : IsListOf ◌<◌ (IsOld (suc i)) h.tail = list_change (λ q. IsOld i q × (i < q)) (IsOld (suc i)) h.tail (λ q a. record { from = (let b = a.1 in omega (arith, b)); below = a.0.below; old = a.0.old }) (λ q a. let b = a.from in (record { from = omega (arith, b); below = a.below; old = a.old }, omega (arith, b))) h.lists in
-          let firsts : IsListOf ◌<◌ (NewFrom (suc i)) ps = list_change (NewFrom i) (NewFrom (suc i)) ps (λ q a. (⊎_elim (λ s. absurd (not_new (subst (IsNew w rows) (sym s) a.1))) (λ s. let b = a.0 in above i q b s) (same_or_not i q), a.1)) (λ q a. let b = a.0 in (omega (arith, b), a.1)) new in
-          let rest = separate suffix (front ++ v ∷ []) (v ∷ earlier) (suc i) ps h.tail next more m.there m.back firsts tail in
-          let not_fresh : ¬ IsFreshVector w earlier v = λ f. not_new (record { within = within; independent = λ s. f (span_of_members w front earlier v wide_earlier back (subst (IsInSpan w front) here (subst (λ (xs : List Vector). IsInSpan w xs (get_or rows i [])) before s))) }) in
-          subst (λ (xs : List ℕ). Separates (IsFreshVector w) earlier (v ∷ suffix) (vectors_at rows ps) (vectors_at rows xs)) (sym h.whole)
-              (subst (λ (x : Vector). Separates (IsFreshVector w) earlier (v ∷ suffix) (vectors_at rows ps) (x ∷ vectors_at rows h.tail)) (sym here) (other not_fresh rest)))
+            let not_new : ¬ IsNew w rows i = λ is. n (new.each i (omega arith, is)) in
+            let h = head_of (IsOld i) i rs old (record { from = omega arith; below = within; old = not_new }) (λ q a. a.from) in
+            let tail : IsListOf ◌<◌ (IsOld (suc i)) h.tail = list_change (λ q. IsOld i q × (i < q)) (IsOld (suc i)) h.tail (λ q a. record { from = (let b = a.1 in omega (arith, b)); below = a.0.below; old = a.0.old }) (λ q a. let b = a.from in (record { from = omega (arith, b); below = a.below; old = a.old }, omega (arith, b))) h.lists in
+            let firsts : IsListOf ◌<◌ (NewFrom (suc i)) ps = list_change (NewFrom i) (NewFrom (suc i)) ps (λ q a. (⊎_elim (λ s. absurd (not_new (subst (IsNew w rows) (sym s) a.1))) (λ s. let b = a.0 in above i q b s) (same_or_not i q), a.1)) (λ q a. let b = a.0 in (omega (arith, b), a.1)) new in
+            let rest = separate suffix (front ++ v ∷ []) (v ∷ earlier) (suc i) ps h.tail next more m.there m.back firsts tail in
+            let not_fresh : ¬ IsFreshVector w earlier v = λ f. not_new (record { within = within; independent = λ s. f (span_of_members w front earlier v wide_earlier back (subst (IsInSpan w front) here (subst (λ (xs : List Vector). IsInSpan w xs (get_or rows i [])) before s))) }) in
+            subst (λ (xs : List ℕ). Separates (IsFreshVector w) earlier (v ∷ suffix) (vectors_at rows ps) (vectors_at rows xs)) (sym h.whole)
+            (subst (λ (x : Vector). Separates (IsFreshVector w) earlier (v ∷ suffix) (vectors_at rows ps) (x ∷ vectors_at rows h.tail)) (sym here) (other not_fresh rest)))
       ]
 
   pub independent_first : (places rest : List ℕ) → AreFirstIndependent w rows places → IsListOf ◌<◌ (IsLeft places 0 (length rows)) rest → IsIndependentFirst (IsFreshVector w) rows (vectors_at rows (places ++ rest))
@@ -185,8 +185,8 @@ rays_span w rays a x l = elim (common_zero_or_dual w rays a.widths) [
       let ps = map swap d.pairs in
       let dual : IsDualPair w ps = record { widths = swapped_widths w d.pairs d.dual.widths; dual = swapped_dual d.pairs d.dual.dual } in
       span_of_members w (vectors_of ps) rays x a.widths
-          (subst (Each (Contains rays)) (sym (swapped_vectors d.pairs)) (each_of_map (λ (p : Pair). p.form) (Contains rays) d.pairs d.from_rows))
-          (cell_span w ps x dual (swapped_only_zero w d.pairs d.dual d.only_zero) l))
+      (subst (Each (Contains rays)) (sym (swapped_vectors d.pairs)) (each_of_map (λ (p : Pair). p.form) (Contains rays) d.pairs d.from_rows))
+      (cell_span w ps x dual (swapped_only_zero w d.pairs d.dual d.only_zero) l))
 ]
 
 -- a form is 0 on the vectors and not at x

@@ -1,5 +1,5 @@
 -- What is held after some rays are placed: the start, and one ray more.
-use Rattle.std.proofs.Common.{◌≡◌, ◌≢◌, ◌⊎◌, ⊎_elim, inl, inr, ℕ, suc, ◌<◌, ◌≤◌, take, length-take-le, below_more, List, [], ◌∷◌, ◌++◌, length, map, get_or, ℤ, pos, ◌*ℤ◌, ◌≤ℤ◌, ◌<ℤ◌, refl, sym, ap, ap₂, ◌∙◌, subst, arith}
+use Rattle.std.proofs.Common.{◌≡◌, ◌≢◌, ◌⊎◌, ⊎_elim, inl, inr, ℕ, ◌<◌, ◌≤◌, take, length-take-le, below_more, List, [], ◌∷◌, ◌++◌, length, map, get_or, ℤ, pos, ◌*ℤ◌, ◌<ℤ◌, refl, sym, ap, ap₂, ◌∙◌, subst, arith}
 use Rattle.std.proofs.lemmas.List.{map-append, length-map, take_more, take_all}
 use Rattle.std.proofs.lemmas.List.Elements.{Contains-append_left, Contains-append_right}
 use Rattle.std.specs.List.{AllByRecursion as Each, AllZip, Contains}
@@ -9,7 +9,7 @@ use Rattle.nz_spec.specs.Order.{Pairwise}
 use Rattle.nz_spec.specs.Covers.{vectors_at}
 use Rattle.nz_spec.proofs.SumLaws.{length-combination}
 use Rattle.nz_spec.proofs.ListLaws.{contains_here, contains_there, contains_cases, contains_none, Each-contains}
-use Rattle.nz_linear.specs.DualPairs.{Pair, pair_of, divisor, IsDualPair, OnlyZero}
+use Rattle.nz_linear.specs.DualPairs.{Pair, pair_of, divisor}
 use Rattle.nz_linear.specs.RayStep.{AreExtremeRays}
 use Rattle.nz_linear.proofs.Ring.{sums, one-mul}
 use Rattle.nz_linear.proofs.Lists.{each_map, each_append, each_of_map, map_each}
@@ -17,11 +17,7 @@ use Rattle.nz_linear.proofs.DualPairs.{widths_of_vectors, divisors_positive, dua
 use Rattle.nz_linear.proofs.DualCone.{swap, swapped_dual, swapped_widths, swapped_only_zero}
 use Rattle.nz_linear.proofs.Floors.{values_at_combination}
 use Rattle.nz_linear.proofs.Members.{members_push}
-use Rattle.nz_spec.proofs.LinearLaws.{HasRank-unique}
 use Rattle.nz_spec.proofs.VectorLaws.{IsZero-zero_vector}
-use Rattle.nz_linear.proofs.EliminationRun.{run}
-use Rattle.nz_linear.proofs.Rank.{rank_of_state, rank_and_left}
-use Rattle.nz_linear.proofs.Dependence.{complete_length}
 use Rattle.nz_linear.proofs.Division.{primitive_nonzero}
 use Rattle.nz_pointed.specs.Pointed.{paired, IsSimplexOf, IsLineOf, IsNew}
 use Rattle.nz_rays.specs.Descriptions.{RowsAndRays, IsDescription}

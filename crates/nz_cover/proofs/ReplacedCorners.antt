@@ -1,25 +1,24 @@
 -- The corners of a replaced simplex: in order, with the forms that it is to have.
-use Rattle.std.proofs.Common.{◌≡◌, ◌≢◌, ◌⊎◌, inl, inr, ℕ, zero, suc, ◌+◌, ◌<◌, ◌≤◌, List, [], ◌∷◌, ◌++◌, length, map, take, drop, get_or, ℤ, pos, neg_ℤ, ◌*ℤ◌, ◌≤ℤ◌, ◌<ℤ◌, refl, sym, ap, ap₂, ◌∙◌, subst, arith}
+use Rattle.std.proofs.Common.{◌≡◌, ◌≢◌, ◌⊎◌, inl, inr, ℕ, zero, suc, ◌<◌, List, [], ◌∷◌, ◌++◌, length, take, drop, get_or, ℤ, pos, neg_ℤ, ◌*ℤ◌, ◌<ℤ◌, refl, sym, ap, ◌∙◌, subst, arith}
 use Rattle.std.proofs.lemmas.List.{map-append}
 use Rattle.std.proofs.Math.IntN.{*ℤ-zero}
 use Rattle.std.specs.List.{AllByRecursion as Each, AllZip, Contains}
-use Rattle.nz_spec.specs.Vectors.{Vector, dot, opposite, HasWidth, IsPrimitive}
-use Rattle.nz_spec.specs.Order.{Pairwise}
+use Rattle.nz_spec.specs.Vectors.{Vector, dot, opposite, HasWidth}
 use Rattle.nz_spec.proofs.EquationLaws.{dot_comm}
 use Rattle.nz_spec.proofs.VectorLaws.{dot-IsZero}
-use Rattle.nz_spec.proofs.ListLaws.{contains_here, contains_there, contains_cases, contains_none, Each-contains, Each-from_contains}
+use Rattle.nz_spec.proofs.ListLaws.{contains_here, contains_there}
 use Rattle.nz_linear.specs.Cones.{meet}
 use Rattle.nz_linear.specs.DualPairs.{Pair, pair_of, divisor, HasWidths}
 use Rattle.nz_linear.proofs.DualPairs.{divisors_positive}
-use Rattle.nz_linear.proofs.Lists.{each_map, each_append, each_insert, each_left, each_right, each_remove, map_each}
+use Rattle.nz_linear.proofs.Lists.{each_map, each_insert, map_each}
 use Rattle.nz_linear.proofs.Ring.{sums}
 use Rattle.nz_linear.proofs.Signs.{mul_pos}
 use Rattle.nz_range.specs.Measures.{measure, AreLargeFor}
 use Rattle.nz_cover.specs.Cells.{IsCell}
-use Rattle.nz_cover.specs.Steps.{IsTilted, IsReplaced}
+use Rattle.nz_cover.specs.Steps.{IsTilted}
 use Rattle.nz_cover.specs.Corners.{Vertex, vertex, places_of, pairs_of, AreInOrder, without, IsBetween, IsTiltedAt, IsReplacedAt}
 use Rattle.nz_cover.proofs.CornerLemmas.{without_is, split_at, take_and_drop, each_without, pairwise_without}
-use Rattle.nz_cover.proofs.ReplacedCells.{IsOnFacet, on_facet}
+use Rattle.nz_cover.proofs.ReplacedCells.{on_facet}
 use Rattle.nz_cover.proofs.StepCovers.{meet_form}
 
 -- ---- where a place stands

@@ -1,13 +1,12 @@
 -- The stages of placing: they are there, and what is held at each is its number and its count.
-use Rattle.std.proofs.Common.{◌≡◌, ◌≢◌, ◌⊎◌, inl, inr, ⊎_elim, ℕ, zero, suc, ◌+◌, ◌-◌, ◌<◌, ◌≤◌, List, [], ◌∷◌, ◌++◌, length, take, get_or, pos, refl, sym, ap, ap₂, ◌∙◌, subst, append_assoc, append-nil, length-append, Bool, true, false, arith}
+use Rattle.std.proofs.Common.{◌≡◌, ◌≢◌, ◌⊎◌, inl, inr, ⊎_elim, ℕ, zero, suc, ◌+◌, ◌-◌, ◌<◌, ◌≤◌, List, [], ◌∷◌, ◌++◌, length, take, get_or, pos, refl, sym, ap, ap₂, ◌∙◌, subst, append_assoc, length-append, Bool, true, false, arith}
 use Rattle.std.proofs.Math.Seq.{take-append_seam}
 use Rattle.std.proofs.lemmas.List.{map-append, length_push, length-map}
 use Rattle.std.proofs.lemmas.List.Elements.{Contains-append_left}
 use Rattle.std.proofs.lemmas.List.FromFn.{length-range_with_len, get_or-range_with_len}
 use Rattle.std.specs.List.{AllByRecursion as Each, AllZip, Contains, range_with_len}
 use Rattle.nz_spec.specs.Vectors.{Vector, dot, HasWidth}
-use Rattle.nz_spec.specs.Sums.{IsInSpan}
-use Rattle.nz_spec.specs.Order.{IsListOf, Pairwise, HasNumber}
+use Rattle.nz_spec.specs.Order.{Pairwise, HasNumber}
 use Rattle.nz_spec.specs.Forms.{IsSupportForm}
 use Rattle.nz_spec.specs.Covers.{vectors_at}
 use Rattle.nz_spec.specs.Stages.{IsFreshVector, IsIndependentFirst, CountsStages, ArePlacings}
@@ -15,7 +14,6 @@ use Rattle.nz_spec.proofs.ListLaws.{IsListOf-unique, contains_here, contains_the
 use Rattle.nz_spec.proofs.UniqueLaws.{same_or_not}
 use Rattle.nz_spec.proofs.StageUnique.{HasNumber-unique}
 use Rattle.nz_linear.specs.Extreme.{IsPointed}
-use Rattle.nz_linear.specs.RayStep.{AreExtremeRays}
 use Rattle.nz_linear.proofs.FacetRows as facet_rows
 use Rattle.nz_linear.proofs.Lists.{each_map, each_append}
 use Rattle.nz_linear.proofs.RayExistence.{extreme_rays_exist}
@@ -25,7 +23,8 @@ use Rattle.nz_pointed.proofs.ListLemmas.{each_take}
 use Rattle.nz_rays.specs.Descriptions.{RowsAndRays, IsDescription}
 use Rattle.nz_edge.specs.Watching.{Pair}
 use Rattle.nz_cover.specs.Corners.{Vertex}
-use Rattle.nz_cover.specs.Placed.{ArePlacedUpTo, PlacesOnce, IsLeft, IsUnderWay}
+use Rattle.nz_cover.specs.Placed.{ArePlacedUpTo}
+use Rattle.nz_cover.specs.Passing.{PlacesOnce, IsLeft, IsUnderWay}
 use Rattle.nz_cover.specs.Placing.{ArePlaceable}
 use Rattle.nz_cover.proofs.FacetLaws.{SpanAll, no_columns, placed_widths, facet_number}
 use Rattle.nz_cover.proofs.OrderLemmas.{Firsts, firsts, list_change, head_of, none_of, left_from, independent_first, above}

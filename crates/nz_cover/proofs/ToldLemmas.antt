@@ -1,9 +1,9 @@
 -- What the watch was told on the way: at the start, at each place, and where placing ends.
-use Rattle.std.proofs.Common.{◌≡◌, ◌≢◌, inl, inr, ℕ, zero, suc, ◌+◌, ◌-◌, ◌<◌, ◌≤◌, List, [], ◌∷◌, ◌++◌, length, take, drop, get_or, ℤ, Bool, true, false, refl, sym, ap, ◌∙◌, subst, length-take-le, arith}
-use Rattle.std.specs.Prelude.{max, IsTrue, MatchResult, ⊤}
+use Rattle.std.proofs.Common.{◌≡◌, ◌≢◌, inr, ℕ, zero, suc, ◌+◌, ◌-◌, ◌<◌, ◌≤◌, List, [], ◌∷◌, ◌++◌, length, take, drop, get_or, ℤ, Bool, true, false, refl, sym, ap, ◌∙◌, subst, length-take-le, arith}
+use Rattle.std.specs.Prelude.{IsTrue, MatchResult, ⊤}
 use Rattle.std.specs.declared.result.Result.{Result}
 use Rattle.std.specs.declared.result.Result.TheVariants.{Ok, Err}
-use Rattle.std.proofs.lemmas.List.{take_more, take_all, length_push}
+use Rattle.std.proofs.lemmas.List.{take_more, length_push}
 use Rattle.std.specs.List.{AllByRecursion as Each}
 use Rattle.nz_spec.specs.Vectors.{Vector, HasWidth}
 use Rattle.nz_spec.specs.Stages.{ArePlacings}
@@ -18,10 +18,11 @@ use Rattle.nz_edge.specs.Watching.{Pair}
 use Rattle.nz_edge.specs.Telling.{Watched, WasTold, HasPassed, HasPassedAll}
 use Rattle.nz_edge.proofs.TellingLemmas.{none_told, told_one_more}
 use Rattle.nz_cover.specs.Corners.{Vertex}
-use Rattle.nz_cover.specs.Placed.{ArePlacedUpTo, PlacesOnce, IsUnderWay, IsToldUpTo, LeavesAs, PassesStage, PassesIf}
+use Rattle.nz_cover.specs.Placed.{ArePlacedUpTo}
+use Rattle.nz_cover.specs.Passing.{PlacesOnce, IsUnderWay, IsToldUpTo, LeavesAs, PassesStage, PassesIf}
 use Rattle.nz_cover.specs.Placing.{ArePlaceable, IsPlaceRefusal}
 use Rattle.nz_cover.proofs.OrderLemmas.{firsts}
-use Rattle.nz_cover.proofs.StageLemmas.{SomeWay, way_start, way_next, way_stage, way_done}
+use Rattle.nz_cover.proofs.StageLemmas.{way_start, way_next, way_stage, way_done}
 
 drop_none : (n : ℕ) → drop {A = Pair} n [] ≡ []
 drop_none zero = refl

@@ -1,7 +1,7 @@
 -- Simplices of rays that are named by their places, each with its form.
 use Rattle.std.specs.Prelude.{◌≡◌, ◌≢◌, ◌++◌, ◌⊎◌, ℕ, zero, suc, ◌<◌, ◌≤◌, List, [], ◌∷◌, map, length, get_or, take, drop, Contains}
 use Rattle.std.specs.List.{AllByRecursion as Each}
-use Rattle.nz_spec.specs.Vectors.{Vector, opposite}
+use Rattle.nz_spec.specs.Vectors.{Vector}
 use Rattle.nz_spec.specs.Order.{Pairwise}
 use Rattle.nz_linear.specs.DualPairs.{Pair, pair_of}
 use Rattle.nz_linear.specs.Cones.{meet}

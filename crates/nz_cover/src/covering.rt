@@ -3,7 +3,8 @@ ghost use Rattle.std.specs.Prelude.{◌≢◌, [], length, IsTrue, MatchResult};
 ghost use Rattle.nz_spec.specs.Stages.{ArePlacings};
 ghost use Rattle.nz_rays.specs.Descriptions.{IsDescription};
 ghost use Rattle.nz_edge.specs.Telling.{HasPassedAll};
-ghost use Rattle.nz_cover.specs.Placed.{ArePlacedUpTo, LeavesAs, PassesStage, PassesIf};
+ghost use Rattle.nz_cover.specs.Placed.{ArePlacedUpTo};
+ghost use Rattle.nz_cover.specs.Passing.{LeavesAs, PassesStage, PassesIf};
 ghost use Rattle.nz_cover.specs.Placing.{ArePlaceable, IsPlaced, IsPlaceRefusal};
 
 use crate::listing::{Cover, sorted_cover};

@@ -117,7 +117,10 @@ fn listed<T: Scalar>(alloc: Global, cells: &[Cell<T>], keys: &[Key]) -> Result<C
 }
 
 /// The simplices in lexicographic order of their places, with their forms.
-pub(crate) fn sorted_cover<T: Scalar>(alloc: Global, cells: &[Cell<T>]) -> Result<Cover<T>, NoMemory>
+pub(crate) fn sorted_cover<T: Scalar>(
+    alloc: Global,
+    cells: &[Cell<T>],
+) -> Result<Cover<T>, NoMemory>
     requires { AreDistinct cells.now }
     ensures { IfOk result (λ c. AreListed cells.now c.simplices c.forms) }
 {

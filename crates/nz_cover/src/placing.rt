@@ -3,7 +3,8 @@ ghost use Rattle.std.specs.Prelude.{◌≡◌, ◌<◌, ◌++◌, ◌∷◌, [],
 ghost use Rattle.std.specs.List.{AllByRecursion as Each};
 ghost use Rattle.nz_spec.specs.Vectors.{HasWidth};
 ghost use Rattle.nz_pointed.specs.Pointed.{IsSimplexOf, IsTooLarge};
-ghost use Rattle.nz_cover.specs.Placed.{ArePlaced, ArePlacedUpTo, PlacesOnce, vertices};
+ghost use Rattle.nz_cover.specs.Placed.{ArePlaced, ArePlacedUpTo, vertices};
+ghost use Rattle.nz_cover.specs.Passing.{PlacesOnce};
 ghost use Rattle.nz_cover.specs.Placing.{ArePlaceable};
 
 use crate::adding::extension;
@@ -89,7 +90,11 @@ fn first_cell<T: Scalar>(alloc: Global, simplex: &Simplex<T>) -> Result<Cell<T>,
 }
 
 /// The first independent rays placed.
-pub(crate) fn begun<T: Scalar>(alloc: Global, rays: &Rows<T>, simplex: Simplex<T>) -> Result<Placing<T>, Num>
+pub(crate) fn begun<T: Scalar>(
+    alloc: Global,
+    rays: &Rows<T>,
+    simplex: Simplex<T>,
+) -> Result<Placing<T>, Num>
     requires { IsSimplexOf (length simplex.places) rays.now simplex.places simplex.rays }
     ensures ok { IfOk result (λ p. (p.placed ≡ simplex.places) × ArePlaced (length simplex.places) rays.now p.placed p.cells.items p.facets) }
     ensures err { IfErr result (λ e. e ≡ Num.NoMemory) }
@@ -127,7 +132,11 @@ fn holds(places: &Places, place: usize) -> bool
 }
 
 /// The first independent rays, which are as many as their entries.
-pub(crate) fn independent<T: Scalar>(alloc: Global, rays: &Rows<T>, width: usize) -> Result<Simplex<T>, Num>
+pub(crate) fn independent<T: Scalar>(
+    alloc: Global,
+    rays: &Rows<T>,
+    width: usize,
+) -> Result<Simplex<T>, Num>
     requires { ArePlaceable width rays.now }
     ensures { MatchResult result (λ s. IsSimplexOf width rays.now s.places s.rays) (λ e. e ≡ Num.Range → IsTooLarge T.HALF width rays.now) }
 {

@@ -146,10 +146,7 @@ fn watch_of(alloc: Global, stop_at: u64) -> Result<MemWatch, Fail> {
 
 fn names(places: &Places, wanted: [usize; 3]) -> bool {
     let [first, second, third] = wanted;
-    places.len() == 3
-        && places.at(0) == first
-        && places.at(1) == second
-        && places.at(2) == third
+    places.len() == 3 && places.at(0) == first && places.at(1) == second && places.at(2) == third
 }
 
 fn lists(simplices: &PlaceLists, wanted: &[[usize; 3]]) -> bool {
@@ -181,12 +178,7 @@ fn is_wanted<T: Scalar>(answer: &Result<Cover<T>, Work>, case: Case) -> bool {
     }
 }
 
-fn agrees<T: Scalar>(
-    alloc: Global,
-    rays: &Rows<T>,
-    width: usize,
-    case: Case,
-) -> Result<bool, Fail>
+fn agrees<T: Scalar>(alloc: Global, rays: &Rows<T>, width: usize, case: Case) -> Result<bool, Fail>
     requires { ArePlaceable width rays.now }
 {
     let watch = match watch_of(alloc, case.stop_at) {

@@ -1,5 +1,4 @@
-use Rattle.std.proofs.Common.{length, sym, subst, ◌∷◌, [], ◌≡◌}
-use Rattle.nz_spec.specs.Vectors.{Vector}
+use Rattle.std.proofs.Common.{length, ◌∷◌, []}
 use Rattle.nz_cover.specs.Corners.{IsExtended, vertex}
 use Rattle.nz_cover.proofs.ReplacedCorners.{forms_width}
 use Rattle.nz_cover.proofs.AddedLemmas.{extended_none, appends_none, extended_skip, extended_more, ready_cell, large_cell}

@@ -1,6 +1,6 @@
 use Rattle.std.proofs.Common.{◌<◌, length, sym, subst, arith, [], List}
 use Rattle.nz_cover.specs.Corners.{Vertex, IsExtended, all_forms}
-use Rattle.nz_cover.proofs.AddedLemmas.{extended_no_facet, extended_join, extended_all, large_some}
+use Rattle.nz_cover.proofs.AddedLemmas.{extended_no_facet, extended_join, large_some}
 use Rattle.nz_cover.proofs.adding.extension.Goals as goal
 
 pub loop-index-init : goal.loop-index-init

@@ -1,4 +1,3 @@
-use Rattle.std.proofs.Common.{◌<◌, length, arith}
 use Rattle.nz_cover.proofs.ReplacedCorners.{between_here}
 use Rattle.nz_cover.proofs.corners.position_of.Goals as goal
 

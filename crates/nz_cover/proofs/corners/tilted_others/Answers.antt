@@ -1,5 +1,5 @@
 use Rattle.std.proofs.Common.{◌<◌, length, arith}
-use Rattle.nz_cover.proofs.CornerLemmas.{tilted_corner, tilted_pass, tilted_all, large_corner}
+use Rattle.nz_cover.proofs.CornerLemmas.{tilted_corner, tilted_pass, large_corner}
 use Rattle.nz_cover.proofs.corners.tilted_others.Goals as goal
 use Rattle.nz_cover.proofs.corners.tilted_others.Goals.{then-j-across+in-Ok+in-Ok-push, else-j-across}
 

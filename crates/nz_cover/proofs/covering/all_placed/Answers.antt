@@ -1,6 +1,5 @@
-use Rattle.std.proofs.Common.{◌≡◌, ◌<◌, ◌≤◌, ◌+◌, length, refl, sym, subst, get_or, [], ℕ, Ok, Err, arith}
+use Rattle.std.proofs.Common.{◌<◌, ◌≤◌, ◌+◌, length, sym, subst, ℕ, Ok, Err, arith}
 use Rattle.std.specs.List.{AllByRecursion as Each}
-use Rattle.nz_vec.specs.declared.answers.Num.TheVariants as nums
 use Rattle.nz_spec.specs.Vectors.{HasWidth}
 use Rattle.nz_pointed.specs.Pointed.{IsTooLarge}
 use Rattle.nz_rays.proofs.StartLemmas.{simplex_at_width}
@@ -40,7 +39,7 @@ pub returns-in-Err-pass : goal.returns-in-Err-pass
 returns-in-Err-pass g c =
     let within : c.loop-place.place < length c.args.rays.now = omega (arith, c.loop-place-test.true, c.len-place-end.ensures) in
     refused g.T.Scalar.HALF c.args.width c.args.rays.now c.args.told_before c.loop-place.passed _ _ c.in-Err-pass.refusal c.left-in-Err-pass.result (so_far c.args.width c.args.rays.now c.args.told_before c.loop-place.place c.loop-place.passed c.loop-place.placing.placed _ _ c.loop-place.invariant.1)
-        (λ e. subst (λ (n : ℕ). IsTooLarge g.T.Scalar.HALF n c.args.rays.now) (width_here c.args.width c.loop-place.place c.args.rays.now c.requires.placeable.widths within) (c.in-Err-pass.ensures e)) c.left-in-Err-pass.ensures
+    (λ e. subst (λ (n : ℕ). IsTooLarge g.T.Scalar.HALF n c.args.rays.now) (width_here c.args.width c.loop-place.place c.args.rays.now c.requires.placeable.widths within) (c.in-Err-pass.ensures e)) c.left-in-Err-pass.ensures
 
 pub returns-in-Err-pass_if_new : goal.returns-in-Err-pass_if_new
 returns-in-Err-pass_if_new g c =

@@ -1,4 +1,5 @@
-use Rattle.nz_cover.specs.Placed.{ArePlacedUpTo, IsToldUpTo}
+use Rattle.nz_cover.specs.Placed.{ArePlacedUpTo}
+use Rattle.nz_cover.specs.Passing.{IsToldUpTo}
 use Rattle.nz_cover.proofs.covering.all_placed.Given as goal
 
 abbrev pub invariant-loop-place : goal.invariant-loop-place

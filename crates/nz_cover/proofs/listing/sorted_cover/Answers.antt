@@ -1,4 +1,4 @@
-use Rattle.std.proofs.Common.{◌≡◌, subst, List, map, ℕ, ap, ◌∙◌}
+use Rattle.std.proofs.Common.{map, ap, ◌∙◌}
 use Rattle.nz_cover.specs.Corners.{places_of, forms_of}
 use Rattle.nz_cover.specs.Listing.{AreListed}
 use Rattle.nz_cover.specs.declared.listing.Key.{Key}
