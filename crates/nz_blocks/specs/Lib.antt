@@ -3,4 +3,8 @@ pub mod Columns
 pub mod Lines
 pub mod AskedLines
 pub mod Output
+pub mod Beginnings
+pub mod Held
+pub mod Sections
+pub mod Laws
 pub mod TestAnswers

@@ -1,5 +1,5 @@
 //! The output text of a run: what was found, in blocks of right-aligned rows.
-//! Its contract: `blocks` gives exactly the text of an outcome.
+//! Its contract: `blocks` gives exactly the text of an outcome, and a text is the text of one outcome.
 //! Below it stand the rows of `nz_vec` and the replies of `nz_member`; the numbers are printed by `itoa`.
 //! `nz_run` stores the text.
 //! Start with `specs/Output.antt`, then `blocks`.
@@ -9,10 +9,12 @@ mod asked;
 mod asked_lines;
 mod columns;
 mod digits;
+mod laws;
 mod outcome;
 mod text;
 
 pub use asked::AskedList;
+pub use laws::texts_have_one_outcome;
 pub use outcome::Outcome;
 pub use text::blocks;
 
