@@ -82,3 +82,16 @@ fn answers_in_memory(rt: HostRuntime) -> Result<(), Fail> {
     assert_eq!(rt; watch.pair(0), Some((2, 3)));
     Ok(())
 }
+
+// Standard error is outside every contract.
+#[test]
+fn stops_after_as_many_stages(rt: HostRuntime) {
+    let mut lines = LinesWatch::new(rt);
+    assert!(rt; lines.stage(1, 2));
+    assert_eq!(rt; lines.pair(0), None);
+    let mut watch = StopWatch::new(rt, 2, true);
+    for answer in [true, true, false, false] {
+        assert_eq!(rt; watch.stage(3, 4), answer);
+    }
+    assert_eq!(rt; watch.pair(0), None);
+}
