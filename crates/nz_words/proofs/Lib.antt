@@ -1,0 +1,9 @@
+pub mod Walking
+pub mod Steps
+pub mod Lexing
+pub mod Listing
+pub mod Backward
+pub mod Forward
+pub mod Defaults
+pub mod Meeting
+pub mod Choosing
