@@ -1,0 +1,115 @@
+//! The words of worked command lines, and what they order.
+use crate::{RunOrder, WatchChoice, WordsRefusal, order, watch_choice};
+use std::alloc::Global;
+use std::test::Fail;
+
+// Words with `|` between them, and their order as text: project, limit, whether stages are printed, after how many the run stops, goals.
+const CASES: [(&str, &str); 50] = [
+    ("", "usage"),
+    ("p", "p 100000 false None"),
+    ("p|q", "usage"),
+    ("p.in", "p 100000 false None"),
+    ("p.in.in", "p.in 100000 false None"),
+    (".in", "usage"),
+    ("p|", "usage"),
+    ("--Limit|0|p", "usage"),
+    ("--Limit|1|p", "p 1 false None"),
+    ("--Limit=250000|p", "p 250000 false None"),
+    ("--Limit=250001|p", "usage"),
+    ("p.in|--Limit=8", "p 8 false None"),
+    ("--Limit|8|p", "p 8 false None"),
+    ("--DualMode|--PrimalMode|p", "usage"),
+    ("--PrimalMode|--HilbertBasis|p", "p 100000 false None HilbertBasis PrimalMode"),
+    ("--Verbose|--Verbose|p", "usage"),
+    ("-x|p", "usage"),
+    ("--Make|151|p", "usage"),
+    ("--Make|5|p", "usage"),
+    ("--Stages|3|--Verbose|p", "p 100000 true Some(3)"),
+    ("--Stages|0|p", "p 100000 false Some(0)"),
+    ("--Stages=1000000|p", "p 100000 false Some(1000000)"),
+    ("--Stages=1000001|p", "usage"),
+    ("--Verbose|p|q", "usage"),
+    ("--Limit|000000007|p", "p 7 false None"),
+    ("--Limit|0000000007|p", "usage"),
+    ("--Limit|+7|p", "usage"),
+    ("--Limit=|p", "usage"),
+    ("p|--Limit", "usage"),
+    ("--Limit|7|--Limit=7|p", "usage"),
+    ("--Limit=7=7|p", "usage"),
+    ("--help", "usage"),
+    ("--version", "usage"),
+    ("-h|p", "usage"),
+    ("help", "help 100000 false None"),
+    ("--Limit|--|p", "usage"),
+    ("--Limit|--Verbose|p", "usage"),
+    ("--Limit|-7|p", "usage"),
+    ("p|--", "p 100000 false None"),
+    ("--|p", "p 100000 false None"),
+    ("--|p|--", "usage"),
+    ("--|--", "usage"),
+    ("--|-p", "usage"),
+    ("--|--Verbose|p", "usage"),
+    ("-", "usage"),
+    ("--Verbose=|p", "usage"),
+    ("--Verb|p", "usage"),
+    ("--Lim=7|p", "usage"),
+    ("--=7|p", "usage"),
+    ("p in", "p in 100000 false None"),
+];
+
+fn words_of(alloc: Global, line: &str) -> Result<Vec<String>, Fail> {
+    let mut words = Vec::new(alloc);
+    if line.is_empty() {
+        return Ok(words);
+    }
+    for word in line.split('|') {
+        words.push(String::from_str(alloc, word)?)?;
+    }
+    Ok(words)
+}
+
+fn shown(alloc: Global, order: &RunOrder) -> Result<String, Fail> {
+    let project = order.project.as_str();
+    let limit = order.limit;
+    let verbose = order.verbose;
+    let stages = order.stages;
+    let mut text = format!(in alloc; "{project} {limit} {verbose} {stages:?}")?;
+    for place in 0..order.goals.len() {
+        let goal = order.goals.at(place);
+        text = format!(in alloc; "{text} {goal:?}")?;
+    }
+    Ok(text)
+}
+
+// The order as text, and what the watch is then chosen by.
+fn expected(alloc: Global, words: &[String]) -> Result<(String, WatchChoice), Fail> {
+    match order(alloc, words) {
+        Ok(order) => Ok((
+            shown(alloc, &order)?,
+            WatchChoice {
+                verbose: order.verbose,
+                stages: order.stages,
+            },
+        )),
+        Err(WordsRefusal::Usage) => Ok((
+            String::from_str(alloc, "usage")?,
+            WatchChoice {
+                verbose: false,
+                stages: None,
+            },
+        )),
+        Err(WordsRefusal::NoMemory) => Err(Fail::from("no memory")),
+    }
+}
+
+#[test]
+fn orders_what_the_words_say(rt: HostRuntime) -> Result<(), Fail> {
+    let alloc = rt.alloc();
+    for (line, text) in CASES {
+        let words = words_of(alloc, line)?;
+        let (answer, choice) = expected(alloc, words.as_slice())?;
+        assert_eq!(rt; answer.as_str(), text, "at {line}");
+        assert_eq!(rt; watch_choice(alloc, words.as_slice())?, choice, "at {line}");
+    }
+    Ok(())
+}
