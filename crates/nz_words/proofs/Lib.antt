@@ -7,3 +7,4 @@ pub mod Forward
 pub mod Defaults
 pub mod Meeting
 pub mod Choosing
+pub mod Unique

@@ -119,3 +119,7 @@ pub record AreFields (words : List Text) (verbose : Bool) (stages : Option ℕ) 
 -- what the watch is chosen by: the two fields of the order, and false and None where the words are refused
 abbrev pub IsChoice : List Text → Bool → Option ℕ → Type 0
 IsChoice words verbose stages = AreFields words verbose stages ⊎ (AreRefused words × (verbose ≡ false) × (stages ≡ None))
+
+-- the words order one thing at most
+abbrev pub OrdersOne : Type 0
+OrdersOne = (words : List Text) (a b : OrderData) → IsOrder words a → IsOrder words b → a ≡ b

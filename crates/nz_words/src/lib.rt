@@ -7,6 +7,7 @@
 
 mod command;
 mod judging;
+mod laws;
 mod name;
 mod number;
 mod ordering;
@@ -14,6 +15,7 @@ mod reading;
 #[cfg(test)]
 mod tests;
 
+pub use laws::words_order_one_thing;
 pub use name::Name;
 pub use nz_vec::NoMemory;
 pub use ordering::{RunOrder, WatchChoice, WordsRefusal, order, watch_choice};
