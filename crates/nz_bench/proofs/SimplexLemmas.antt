@@ -2,15 +2,19 @@
 use Rattle.std.proofs.Common.{◌≡◌, ℕ, zero, suc, ◌+◌, ◌++◌, take, Contains, ◌<◌, List, [], ◌∷◌, length, get_or, pos, refl, sym, ap, ◌∙◌, subst, arith}
 use Rattle.std.specs.List.{AllByRecursion as Each}
 use Rattle.nz_spec.specs.Vectors.{Vector, dot, HasWidth, IsZero}
+use Rattle.nz_spec.specs.Sums.{HasRank}
 use Rattle.nz_spec.specs.Covers.{vectors_at}
-use Rattle.std.proofs.lemmas.List.{length-map, get_or-map, take_more}
+use Rattle.std.proofs.lemmas.List.{length-map, get_or-map, take_more, append-nil}
 use Rattle.nz_spec.proofs.ListLaws.{contains_here, contains_there, Each-from_contains, Each-contains}
-use Rattle.nz_linear.specs.DualPairs.{pair_of, AllVanish, IsDualPair, OnlyZero}
+use Rattle.nz_linear.specs.DualPairs.{Pair, pair_of, AllVanish, IsDualPair, OnlyZero}
 use Rattle.nz_spec.proofs.VectorLaws.{IsZero-zero_vector}
+use Rattle.nz_linear.specs.Elimination.{IsState}
+use Rattle.nz_linear.proofs.Rank.{rank_of_state}
 use Rattle.nz_linear.proofs.Dependence.{complete_length}
 use Rattle.nz_pointed.specs.Pointed.{paired, IsNew, IsSimplexOf}
 use Rattle.nz_classes.specs.Classes.{IsPoint}
 use Rattle.nz_classes.specs.Walks.{paired as paired_sides, IsFullSimplex}
+use Rattle.nz_cover.specs.Placing.{ArePlaceable}
 use Rattle.nz_reducer.specs.Reducers.{AreSeparated}
 
 same_pairs : (fs vs : List Vector) → paired fs vs ≡ paired_sides fs vs
@@ -67,3 +71,21 @@ chosen_more rows places i place row copy done more l p r c d m =
 -- the points have the width of the rows
 pub points_wide : (w : ℕ) (rows : List Vector) (places : List ℕ) (rays points : List Vector) → IsSimplexOf w rows places rays → Each (IsPoint (length rays) rays) points → Each (HasWidth w) points
 points_wide w rows places rays points s e = Each-from_contains _ points (λ x c. (Each-contains (IsPoint (length rays) rays) points x e c).0 ∙ s.one_each ∙ simplex_size w rows places rays s)
+
+chosen_are_rows : (rows : List Vector) (places : List ℕ) (rays : List Vector) → Each (λ p. p < length rows) places → Each (λ (p : Pair). Contains rows p.form) (paired (vectors_at rows places) rays)
+chosen_are_rows rows [] rays inside = tt
+chosen_are_rows rows (p ∷ places) [] inside = tt
+chosen_are_rows rows (p ∷ places) (v ∷ rays) inside = (contains_get p rows inside.0, chosen_are_rows rows places rays inside.1)
+
+-- the rank of the rows is their width
+pub placeable : (w : ℕ) (rows : List Vector) (places : List ℕ) (rays : List Vector) → IsSimplexOf w rows places rays → Each (HasWidth w) rows → ArePlaceable w rows
+placeable w rows places rays s wide =
+    let ps = paired (vectors_at rows places) rays in
+    let whole : ps ++ [] ≡ ps = append-nil ps in
+    let state : IsState w rows ps [] = record {
+      pair = subst (IsDualPair w) (sym whole) s.dual;
+      only_zero = subst (OnlyZero w) (sym whole) s.only_zero;
+      from_seen = chosen_are_rows rows places rays (within w rows places rays s);
+      free_vanish = tt;
+    } in
+    record { widths = wide; full = subst (HasRank w (Contains rows)) (complete_length w ps s.dual s.only_zero) (rank_of_state w rows ps [] wide state) }

@@ -23,7 +23,7 @@ fn main(rt: HostRuntime) -> io::Result<()> {
     };
     let engine = match engine {
         Some(engine) => engine,
-        None => return println!(rt; "usage: nz_bench rays|walk|reduce < FILE"),
+        None => return println!(rt; "usage: nz_bench rays|walk|reduce|cover|dual < FILE"),
     };
     let text = io::read_to_string(rt.alloc(), rt.stdin())?;
     let file = match read(rt.alloc(), text.as_bytes()) {

@@ -7,6 +7,9 @@ ghost use Rattle.nz_pointed.specs.Pointed.{IsSimplexOf};
 ghost use Rattle.nz_reducer.specs.Reducers.{AreSeparated};
 
 use nz_classes::walk;
+use nz_cover::place;
+use nz_dual::dual;
+use nz_edge::{QuietWatch, Watch};
 use nz_pointed::{Pointed, Simplex, start};
 use nz_rays::Double;
 use nz_reducer::irreducibles;
@@ -22,6 +25,10 @@ pub enum Engine {
     Walk,
     /// These points, reduced by all rows.
     Reduce,
+    /// The simplices of a cover of the cone that the rows generate.
+    Cover,
+    /// The irreducibles of the whole vectors at which all rows are at least 0, by the dual algorithm.
+    Dual,
 }
 
 /// The engine with this name.
@@ -34,6 +41,12 @@ pub fn engine_of(word: &[u8]) -> Option<Engine> {
     }
     if word == b"reduce".as_slice() {
         return Some(Engine::Reduce);
+    }
+    if word == b"cover".as_slice() {
+        return Some(Engine::Cover);
+    }
+    if word == b"dual".as_slice() {
+        return Some(Engine::Dual);
     }
     None
 }
@@ -58,6 +71,8 @@ pub fn measured(alloc: Global, engine: Engine, rows: &Rows<i64>, width: usize) -
         Engine::Rays => rays(alloc, rows, &simplex, width),
         Engine::Walk => walked(alloc, rows, &simplex, width),
         Engine::Reduce => reduced(alloc, rows, &simplex, width),
+        Engine::Cover => covered(alloc, rows, &simplex, width),
+        Engine::Dual => irreducible(alloc, rows, &simplex, width),
     };
     match count {
         Some(count) => Outcome::Vectors(count),
@@ -142,6 +157,42 @@ fn reduced(alloc: Global, rows: &Rows<i64>, simplex: &Simplex<i64>, width: usize
         None => return None,
     };
     match irreducibles(alloc, &points, rows) {
+        Ok(list) => Some(list.len()),
+        Err(_) => None,
+    }
+}
+
+// How many simplices cover the cone that the rows generate.
+fn covered(alloc: Global, rows: &Rows<i64>, simplex: &Simplex<i64>, width: usize) -> Option<usize>
+    requires simplex { IsSimplexOf width rows.now simplex.now.places simplex.now.rays }
+    requires widths { Each (HasWidth width) rows.now }
+{
+    let _ = simplex;
+    let mut watch: Box<dyn Watch> = match Box::new(alloc, QuietWatch::new()) {
+        Ok(watch) => watch,
+        Err(_) => return None,
+    };
+    match place(alloc, rows, width, 0, &mut watch) {
+        Ok(cover) => Some(cover.simplices.len()),
+        Err(_) => None,
+    }
+}
+
+// How many irreducibles the whole vectors have at which all rows are at least 0.
+fn irreducible(
+    alloc: Global,
+    rows: &Rows<i64>,
+    simplex: &Simplex<i64>,
+    width: usize,
+) -> Option<usize>
+    requires simplex { IsSimplexOf width rows.now simplex.now.places simplex.now.rays }
+    requires widths { Each (HasWidth width) rows.now }
+{
+    let mut watch: Box<dyn Watch> = match Box::new(alloc, QuietWatch::new()) {
+        Ok(watch) => watch,
+        Err(_) => return None,
+    };
+    match dual(alloc, rows, simplex, u32::MAX, 0, &mut watch) {
         Ok(list) => Some(list.len()),
         Err(_) => None,
     }
