@@ -2,3 +2,4 @@ pub mod RowLemmas
 pub mod RayLemmas
 pub mod NormalLemmas
 pub mod SupportLemmas
+pub mod ConeLemmas

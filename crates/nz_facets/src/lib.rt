@@ -10,7 +10,7 @@ mod describing;
 mod facets;
 mod raying;
 
-pub use constraining::cone_constraints;
+pub use constraining::{cone_constraints, constraints_of};
 pub use describing::{Description, describe};
 
 #[cfg(test)]
