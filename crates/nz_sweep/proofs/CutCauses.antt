@@ -1,11 +1,9 @@
 -- What is large where a cut forms a number that is no value of the type.
 use Rattle.std.proofs.Common.{◌≡◌, ◌≢◌, ◌⊎◌, inl, inr, ⊎_elim, ℕ, List, ◌∙◌, ℤ, pos, ◌-ℤ◌, ◌+ℤ◌, ◌*ℤ◌, ◌<ℤ◌, ◌≤ℤ◌, refl, ap, subst, arith}
-use Rattle.std.specs.Prelude.{Option, Some, None, IsSome, MatchOption, Result, Ok, Err, IfOk, MatchResult, unsigned_abs, Contains}
-use Rattle.std.proofs.lemmas.Bool.{false≢true}
+use Rattle.std.specs.Prelude.{Result, Ok, Err, IfOk, MatchResult, unsigned_abs, Contains}
 use Rattle.std.proofs.lemmas.Int.{ints}
 use Rattle.nz_spec.specs.Vectors.{Vector, dot}
 use Rattle.nz_linear.proofs.Ring.{sums, ring_z}
-use Rattle.nz_scalar.specs.Exact.{GivesSuch}
 use Rattle.nz_scalar.specs.Division.{IsFloorQuotient}
 use Rattle.nz_scalar.specs.Room.{IsWithin, HasRoom}
 use Rattle.nz_vec.specs.declared.answers.Num.{Num}
@@ -27,10 +25,6 @@ use Rattle.nz_sweep.proofs.GatherCauses.{above_size}
 pub not_range : (e : Num) → e ≡ NoMemory → e ≡ Range → ⊥
 not_range NoMemory h k = cc
 not_range Range h k = cc
-
-pub option_sure : {T : Type 0} (integer : T → ℤ) (fits P : ℤ → Type 0) (Q : Type 0) (R : T → Type 0) (o : Option T) → IsSome o → GivesSuch integer fits o P → ((x : T) → P (integer x) → R x) → MatchOption o Q R
-option_sure integer fits P Q R None s h k = absurd (false≢true s)
-option_sure integer fits P Q R (Some x) s h k = k x h.1
 
 -- ---- remainders
 pub remainder_product : (h : ℤ) (fits : ℤ → Type 0) → HasRoom h fits → (v m q : ℤ) → pos 1 ≤ℤ m → IsFloorQuotient v m q → ¬ fits (q *ℤ m) → (h <ℤ m) ⊎ (h <ℤ pos (unsigned_abs v))

@@ -6,6 +6,7 @@ ghost use Rattle.nz_scalar.specs.Division.{HasGcd};
 ghost use Rattle.nz_sweep.specs.Duals.{unit_coordinate, IsLowered};
 ghost use Rattle.nz_sweep.specs.Rounds.{IsInLowestTerms};
 
+use crate::floors::floor;
 use crate::units::units;
 use nz_vec::{NoMemory, Num, Row, Scalar};
 use std::alloc::Global;
@@ -103,17 +104,15 @@ pub(crate) fn lowest<T: Scalar>(
         Some(common) => common,
         None => return Err(Num::Range),
     };
-    let divisor = match divisor.floor_div(common) {
-        Some(divisor) => divisor,
-        None => return Err(Num::Range),
-    };
+    let divisor = floor(divisor, common);
     match divided(alloc, form, common) {
         Ok(form) => Ok(Coordinate { form, divisor }),
-        Err(refusal) => Err(refusal),
+        Err(refusal) => Err(Num::from(refusal)),
     }
 }
 
-// The greatest common divisor of the divisor and the entries.
+// The greatest common divisor of the divisor and the entries. The divisor comes first, since what
+// divides it is no larger, while that of two entries can be no value of the type.
 fn common_divisor<T: Scalar>(form: &Row<T>, divisor: T) -> Option<T>
     requires { pos 0 <ℤ T.integer divisor }
     ensures { MatchOption result (T.HALF <ℤ T.integer divisor) (λ g. (pos 0 <ℤ T.integer g) × HasGcd (T.integer divisor ∷ form.now) (T.integer g)) }
@@ -129,20 +128,17 @@ fn common_divisor<T: Scalar>(form: &Row<T>, divisor: T) -> Option<T>
 }
 
 // The form divided by a number that divides its entries.
-fn divided<T: Scalar>(alloc: Global, form: &Row<T>, by: T) -> Result<Row<T>, Num>
+fn divided<T: Scalar>(alloc: Global, form: &Row<T>, by: T) -> Result<Row<T>, NoMemory>
     requires positive { pos 0 <ℤ T.integer by }
     requires divides { Each (IsMultipleOf (T.integer by)) form.now }
-    ensures { MatchResult result (λ r. scaled (T.integer by) r ≡ form.now) (λ e. e ≡ Num.NoMemory) }
+    ensures { IfOk result (λ r. scaled (T.integer by) r ≡ form.now) }
 {
     let mut entries = match Vec::with_capacity(alloc, form.len()) {
         Ok(entries) => entries,
-        Err(_) => return Err(Num::NoMemory),
+        Err(_) => return Err(NoMemory),
     };
     for place in 0..form.len() {
-        match form.at(place).floor_div(by) {
-            Some(entry) => entries.push_reserved(entry),
-            None => return Err(Num::Range),
-        }
+        entries.push_reserved(floor(form.at(place), by));
     }
     Ok(Row::from_vec(entries))
 }

@@ -10,6 +10,7 @@ ghost use Rattle.nz_sweep.specs.Rounds.{IsEquationMove, IsCongruenceMove, IsInLo
 
 use crate::clearing::{Cleared, clear_all};
 use crate::coordinates::{Coordinate, copies, lowest};
+use crate::floors::floor;
 use crate::pivots::least;
 use crate::valued::{Valued, rows, with_remainders, with_values};
 use nz_vec::{Num, Row, Scalar};
@@ -196,7 +197,7 @@ fn cofactor<T: Scalar>(value: T, modulus: T) -> Option<T>
         Some(divisor) => divisor,
         None => return None,
     };
-    modulus.floor_div(divisor)
+    Some(floor(modulus, divisor))
 }
 
 pub(crate) fn times<T: Scalar>(alloc: Global, factor: T, row: &Row<T>) -> Result<Row<T>, Num>

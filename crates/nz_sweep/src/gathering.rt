@@ -9,6 +9,7 @@ ghost use Rattle.nz_sweep.specs.Numbers.{SomeNumberLarge, IsTakingNumber, IsRoun
 ghost use Rattle.nz_sweep.specs.Rounds.{Gathers, IsTakenIn};
 
 use crate::coordinates::{Coordinate, copied, lowest};
+use crate::floors::floor;
 use crate::valued::{Valued, is_zero};
 use nz_vec::{Num, Row, Scalar};
 use std::alloc::Global;
@@ -82,7 +83,7 @@ fn quotient<T: Scalar>(other: &Valued<T>, own: &Valued<T>) -> Option<T>
     other.value.floor_div(own.value)
 }
 
-// The sum of `own` and the quotient times another, over their least common divisor.
+// The sum of `own` and the quotient times another, over the least common multiple of their divisors.
 fn joined<T: Scalar>(
     alloc: Global,
     quotient: T,
@@ -99,14 +100,8 @@ fn joined<T: Scalar>(
         Some(common) => common,
         None => return Err(Num::Range),
     };
-    let first = match other.divisor.floor_div(common) {
-        Some(first) => first,
-        None => return Err(Num::Range),
-    };
-    let second = match own.divisor.floor_div(common) {
-        Some(second) => second,
-        None => return Err(Num::Range),
-    };
+    let first = floor(other.divisor, common);
+    let second = floor(own.divisor, common);
     let divisor = match first.try_mul(own.divisor) {
         Some(divisor) => divisor,
         None => return Err(Num::Range),

@@ -8,6 +8,7 @@ ghost use Rattle.nz_sweep.specs.Numbers.{SomeNumberLarge, IsMeasureAt, IsEntryOf
 
 use crate::basis::column;
 use crate::coordinates::Coordinate;
+use crate::floors::floor;
 use crate::terms::has_value;
 use nz_vec::{Num, Row, Scalar};
 use std::alloc::Global;
@@ -50,10 +51,7 @@ fn whole_coordinate<T: Scalar>(coordinate: &Coordinate<T>, x: &Row<T>) -> Result
         Some(value) => value,
         None => return Err(Num::Range),
     };
-    let quotient = match value.floor_div(coordinate.divisor) {
-        Some(quotient) => quotient,
-        None => unreachable!(),
-    };
+    let quotient = floor(value, coordinate.divisor);
     let product = match quotient.try_mul(coordinate.divisor) {
         Some(product) => product,
         None => return Ok(None),

@@ -7,6 +7,7 @@ ghost use Rattle.nz_range.specs.Measures.{pair_measure};
 ghost use Rattle.nz_sweep.specs.Cuts.{AreValued, IsValueAt, IsRemainder, IsRemainderAt};
 ghost use Rattle.nz_sweep.specs.Numbers.{SomeNumberLarge, IsMeasureOf};
 
+use crate::floors::floor;
 use nz_vec::{Num, Row, Scalar};
 use std::alloc::Global;
 use std::marker::Model;
@@ -109,11 +110,7 @@ fn remainder<T: Scalar>(value: T, modulus: T) -> Option<T>
     requires { pos 1 ≤ℤ T.integer modulus }
     ensures { MatchOption result ((T.HALF <ℤ T.integer modulus) ⊎ (T.HALF <ℤ pos (unsigned_abs (T.integer value)))) (λ r. IsRemainder (T.integer modulus) (T.integer value) (T.integer r)) }
 {
-    let quotient = match value.floor_div(modulus) {
-        Some(quotient) => quotient,
-        None => return None,
-    };
-    let taken = match quotient.try_mul(modulus) {
+    let taken = match floor(value, modulus).try_mul(modulus) {
         Some(taken) => taken,
         None => return None,
     };

@@ -1,4 +1,3 @@
-use Rattle.std.proofs.lemmas.Bool.{false≢true}
 use Rattle.std.proofs.Common.{◌<◌, ◌+◌, ◌∙◌, ℤ, length, ap, subst, arith}
 use Rattle.nz_spec.specs.Vectors.{entry}
 use Rattle.nz_scalar.specs.Division.{IsFloorQuotient}
@@ -11,8 +10,5 @@ loop-place-preserved g c =
     let inside : c.loop-place.place < length c.args.form.now = omega (arith, c.loop-place-test.true, c.len-place-end.ensures) in (
       c.push_reserved.ensures.len ∙ ap (λ n. n + 1) c.loop-place.invariant.0,
       c.push_reserved.ensures.capacity ∙ c.loop-place.invariant.1,
-      divided_more Z (Z c.args.by) c.args.form.now c.loop-place.entries.items c.push_reserved.new.self.items c.loop-place.place c.in-Some.entry inside c.loop-place.invariant.2 (exact_of (entry c.args.form.now c.loop-place.place) (Z c.args.by) (Z c.in-Some.entry) c.requires.positive (each_entry (Z c.args.by) c.args.form.now c.loop-place.place c.requires.divides inside) (subst (λ (t : ℤ). IsFloorQuotient t (Z c.args.by) (Z c.in-Some.entry)) c.at.ensures c.in-Some.ensures.value.1)) c.push_reserved.ensures.items,
+      divided_more Z (Z c.args.by) c.args.form.now c.loop-place.entries.items c.push_reserved.new.self.items c.loop-place.place c.floor.result inside c.loop-place.invariant.2 (exact_of (entry c.args.form.now c.loop-place.place) (Z c.args.by) (Z c.floor.result) c.requires.positive (each_entry (Z c.args.by) c.args.form.now c.loop-place.place c.requires.divides inside) (subst (λ (t : ℤ). IsFloorQuotient t (Z c.args.by) (Z c.floor.result)) c.at.ensures c.floor.ensures)) c.push_reserved.ensures.items,
     )
-
-pub returns-in-None : goal.returns-in-None
-returns-in-None g c = absurd (false≢true (c.in-None.ensures.some c.requires.positive))

@@ -1,9 +1,5 @@
-use Rattle.std.proofs.lemmas.Bool.{false≢true}
 use Rattle.nz_sweep.proofs.LowerLemmas.{exact_of}
 use Rattle.nz_sweep.proofs.coordinates.lowest.Goals as goal
-
-pub returns-in-None-floor_div-clause-lowest : goal.returns-in-None-floor_div-clause-lowest
-returns-in-None-floor_div-clause-lowest g c = absurd (false≢true (c.in-None-floor_div.ensures.some c.in-Some.ensures.0))
 
 pub returns-in-None-clause-lowest : goal.returns-in-None-clause-lowest
 returns-in-None-clause-lowest g c = λ _. c.in-None.ensures
@@ -14,9 +10,9 @@ divided-requires-clause-divides g c = c.in-Some.ensures.1.divides.1
 pub returns-in-Ok-clause-lowered : goal.returns-in-Ok-clause-lowered
 returns-in-Ok-clause-lowered g c =
     let Z = g.T.Scalar.integer in
-    record { g = Z c.in-Some.common; positive = c.in-Some.ensures.0; form_is = c.in-Ok.ensures; divisor_is = exact_of (Z c.args.divisor) (Z c.in-Some.common) (Z c.in-Some-floor_div.divisor) c.in-Some.ensures.0 c.in-Some.ensures.1.divides.0 c.in-Some-floor_div.ensures.value.1 }
+    record { g = Z c.in-Some.common; positive = c.in-Some.ensures.0; form_is = c.in-Ok.ensures; divisor_is = exact_of (Z c.args.divisor) (Z c.in-Some.common) (Z c.floor-divisor.result) c.in-Some.ensures.0 c.in-Some.ensures.1.divides.0 c.floor-divisor.ensures }
 
 pub returns-in-Ok-clause-lowest : goal.returns-in-Ok-clause-lowest
 returns-in-Ok-clause-lowest g c =
     let Z = g.T.Scalar.integer in
-    record { g = Z c.in-Some.common; gcd = c.in-Some.ensures.1; form_is = c.in-Ok.ensures; divisor_is = exact_of (Z c.args.divisor) (Z c.in-Some.common) (Z c.in-Some-floor_div.divisor) c.in-Some.ensures.0 c.in-Some.ensures.1.divides.0 c.in-Some-floor_div.ensures.value.1 }
+    record { g = Z c.in-Some.common; gcd = c.in-Some.ensures.1; form_is = c.in-Ok.ensures; divisor_is = exact_of (Z c.args.divisor) (Z c.in-Some.common) (Z c.floor-divisor.result) c.in-Some.ensures.0 c.in-Some.ensures.1.divides.0 c.floor-divisor.ensures }
