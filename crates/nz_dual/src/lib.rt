@@ -16,3 +16,6 @@ mod values;
 
 pub use running::dual;
 pub use stages::Stage;
+
+#[cfg(test)]
+mod tests;
