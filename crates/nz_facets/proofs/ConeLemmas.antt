@@ -1,7 +1,7 @@
 -- Constraints of the cone behind others.
 use Rattle.std.proofs.Common.{◌≡◌, ℕ, List, [], ◌∷◌, ◌++◌, map, refl, sym, ap, ◌∙◌, subst}
 use Rattle.std.specs.List.{AllByRecursion as Each}
-use Rattle.nz_spec.specs.Vectors.{Vector, HasWidth}
+use Rattle.nz_spec.specs.Vectors.{Vector}
 use Rattle.nz_spec.specs.Sums.{IsInCone}
 use Rattle.nz_spec.specs.Forms.{DescribeCone}
 use Rattle.nz_spec.specs.Constraints.{Constraint, Zero, NotNegative, Meets}
@@ -20,10 +20,6 @@ cone_added w G support equations list zeros all ez ea d = record {
     assoc [] ys zs = refl
     assoc (x ∷ xs) ys zs = ap (λ t. x ∷ t) (assoc xs ys zs)
 
--- behind none they are all
-pub members_alone : (w : ℕ) (Member : Vector → Type 0) (list all : List Constraint) → list ≡ [] → AreWithMembers w Member list all → HaveMembers w Member all
-members_alone w Member list all e a = subst (HaveMembers w Member) (sym (a.whole ∙ ap (λ t. t ++ a.added) e)) a.members
-
 -- behind constraints with members of their own they have those of both
 pub members_both : (w : ℕ) (Member Other : Vector → Type 0) (list all : List Constraint) → HaveMembers w Other list → AreWithMembers w Member list all → HaveMembers w (λ x. Member x × Other x) all
 members_both w Member Other list all h a x l =
@@ -31,7 +27,3 @@ members_both w Member Other list all h a x l =
       (λ m. let n = subst (Each Met) a.whole m in ((a.members x l).0 (each_right Met list a.added n), (h x l).0 (each_left Met list a.added n))),
       (λ m. subst (Each Met) (sym a.whole) (each_append Met list a.added ((h x l).1 m.1) ((a.members x l).1 m.0))),
     )
-
--- no constraint is met by all
-pub all_meet : (w : ℕ) (Member : Vector → Type 0) (list : List Constraint) → list ≡ [] → ((x : Vector) → Member x) → HaveMembers w Member list
-all_meet w Member list e h = subst (HaveMembers w Member) (sym e) (λ x l. ((λ m. h x), (λ m. tt)))

@@ -14,4 +14,6 @@ pub use constraining::{cone_constraints, constraints_of};
 pub use describing::{Description, describe};
 
 #[cfg(test)]
+mod constraints_tests;
+#[cfg(test)]
 mod tests;
