@@ -1,23 +1,22 @@
 -- The rows of a pointed cone have just finitely many irreducibles: they are among the vectors of bounded measure.
-use Rattle.std.proofs.Common.{◌≡◌, ◌≢◌, ◌⊎◌, ⊎_elim, inl, inr, ℕ, zero, suc, ◌+◌, ◌*◌, ◌<◌, ◌≤◌, List, [], ◌∷◌, ◌++◌, length, map, ℤ, pos, negsuc, ◌+ℤ◌, ◌*ℤ◌, ◌≤ℤ◌, ◌<ℤ◌, Contains, refl, sym, ap, ap₂, ◌∙◌, subst, arith}
+use Rattle.std.proofs.Common.{◌≡◌, ◌≢◌, ◌⊎◌, ⊎_elim, inl, inr, ℕ, zero, suc, ◌+◌, ◌*◌, ◌≤◌, List, [], ◌∷◌, ◌++◌, length, map, ℤ, pos, negsuc, ◌+ℤ◌, ◌≤ℤ◌, ◌<ℤ◌, Contains, refl, sym, ap, ◌∙◌, subst, arith}
 use Rattle.std.specs.Prelude.{unsigned_abs}
 use Rattle.std.proofs.lemmas.Int.{ints, unsigned_abs-mul, by_lt_z}
 use Rattle.std.proofs.Math.IntN.{pos-*ℤ-pos}
 use Rattle.std.proofs.Math.Nat.{mul-add, mul-le-mul_right}
 use Rattle.std.proofs.lemmas.List.Elements.{Contains-append_left, Contains-append_right}
 use Rattle.std.specs.List.{AllByRecursion as Each}
-use Rattle.nz_spec.specs.Vectors.{Vector, dot, plus, minus, scaled, combination, zero_vector, HasWidth, IsZero, IsNonzero}
+use Rattle.nz_spec.specs.Vectors.{Vector, dot, plus, minus, scaled, combination, zero_vector, HasWidth}
 use Rattle.nz_spec.specs.Monoids.{IsPositive, IsIrreducible}
-use Rattle.nz_spec.specs.Order.{Pairwise, ListsOnce, HasNumber}
+use Rattle.nz_spec.specs.Order.{Pairwise, HasNumber}
 use Rattle.nz_spec.specs.Stages.{IsInStage}
-use Rattle.nz_spec.specs.Sums.{IsInCone, IsInBox}
+use Rattle.nz_spec.specs.Sums.{IsInBox}
 use Rattle.nz_spec.proofs.ListLaws.{Each-contains, Each-from_contains, contains_here, contains_there, contains_cases, contains_none}
 use Rattle.nz_spec.proofs.SumLaws.{IsInCone-box, length-combination}
 use Rattle.nz_spec.proofs.UniqueLaws.{same_or_not}
 use Rattle.nz_spec.proofs.VectorLaws.{zero_or_not, length-minus}
-use Rattle.nz_linear.specs.Cones.{IsDoubleDescription, Satisfies}
+use Rattle.nz_linear.specs.Cones.{Satisfies}
 use Rattle.nz_linear.specs.Extreme.{IsPointed}
-use Rattle.nz_linear.proofs.ConeMembers.{cone_member}
 use Rattle.nz_linear.proofs.Farkas.{described, generated, cone_satisfies}
 use Rattle.nz_linear.proofs.Lists.{each_map, each_append, each_of_map}
 use Rattle.nz_linear.proofs.Pointed.{positive_of_pointed}

@@ -1,30 +1,25 @@
 -- The first stage: the rays of a simplex and the points of their half-open parallelepiped generate it.
-use Rattle.std.proofs.Common.{◌≡◌, ◌≢◌, ◌⊎◌, ⊎_elim, inl, inr, ℕ, zero, suc, ◌<◌, ◌≤◌, List, [], ◌∷◌, ◌++◌, length, map, get_or, ℤ, pos, negsuc, ◌+ℤ◌, ◌*ℤ◌, ◌≤ℤ◌, ◌<ℤ◌, Contains, refl, sym, ap, ◌∙◌, subst, arith}
-use Rattle.std.specs.Prelude.{unsigned_abs}
-use Rattle.std.proofs.lemmas.Int.{ints}
-use Rattle.std.proofs.lemmas.List.{append_assoc, map-append, length-map}
+use Rattle.std.proofs.Common.{◌≡◌, ◌⊎◌, ⊎_elim, inl, inr, ℕ, List, [], ◌∷◌, length, map, get_or, pos, ◌≤ℤ◌, Contains, refl, sym, ap, ◌∙◌, subst, arith}
+use Rattle.std.proofs.lemmas.List.{length-map}
 use Rattle.std.proofs.lemmas.List.Elements.{Contains-append_left, Contains-append_right, Contains-append_cases}
-use Rattle.std.specs.List.{AllByRecursion as Each, AllZip}
-use Rattle.nz_spec.specs.Vectors.{Vector, dot, plus, minus, scaled, combination, zero_vector, HasWidth, IsZero, IsNonzero, IsPrimitive}
-use Rattle.nz_spec.specs.Boxes.{IsBoxMember}
+use Rattle.std.specs.List.{AllByRecursion as Each}
+use Rattle.nz_spec.specs.Vectors.{Vector, dot, combination, zero_vector, HasWidth, IsZero}
 use Rattle.nz_spec.specs.Covers.{vectors_at}
-use Rattle.nz_spec.specs.Forms.{IsKeyColumn, IsOtherColumn, IsDualForm, IsNormalForm, LeadsAt}
-use Rattle.nz_spec.specs.Monoids.{IsPositive, IsIrreducible}
-use Rattle.nz_spec.specs.Order.{IsLexBefore, IsListOf, ListsOnce, MoreThan}
+use Rattle.nz_spec.specs.Monoids.{IsPositive}
+use Rattle.nz_spec.specs.Order.{IsLexBefore, IsListOf}
 use Rattle.nz_spec.specs.Stages.{IsInStage}
-use Rattle.nz_spec.specs.Sums.{IsInSpan, IsInCone, IsInBox, IsIndependent}
-use Rattle.nz_spec.proofs.ListLaws.{Each-contains, Each-from_contains, Each-weaker}
+use Rattle.nz_spec.specs.Sums.{IsInSpan, IsInCone, IsIndependent}
+use Rattle.nz_spec.proofs.ListLaws.{Each-contains, Each-from_contains}
 use Rattle.nz_spec.proofs.SumLaws.{IsInCone-box, length-combination}
-use Rattle.nz_spec.proofs.VectorLaws.{IsZero-zero_vector, length-scaled, length-minus}
-use Rattle.nz_linear.specs.DualPairs.{Pair, pair_of, divisor, product, IsApart, HasWidths, IsDual, IsDualPair, OnlyZero, IsCompleteOn}
+use Rattle.nz_spec.proofs.VectorLaws.{IsZero-zero_vector, length-minus}
+use Rattle.nz_linear.specs.DualPairs.{Pair, pair_of, product, IsDualPair, OnlyZero}
 use Rattle.nz_linear.proofs.Dependence.{complete_length}
 use Rattle.nz_linear.proofs.Elimination.{all_of_width, complete_of}
 use Rattle.nz_linear.proofs.DualPairs.{product_positive, length-factors, spread_is, expansion, dual_independent}
-use Rattle.nz_linear.proofs.Lists.{each_map, each_map2, each_append, each_of_map, map_each}
+use Rattle.nz_linear.proofs.Lists.{each_of_map, map_each}
 use Rattle.nz_linear.proofs.Pointed.{positive_of_pointed}
 use Rattle.nz_linear.proofs.RayStart.{dual_pointed}
 use Rattle.nz_linear.proofs.SimplexCones.{cone_by_forms}
-use Rattle.nz_linear.proofs.Signs.{mul_is_zero, mul_is_pos}
 use Rattle.nz_linear.proofs.ConeMembers.{cone_member}
 use Rattle.nz_linear.proofs.Spans.{in_span}
 use Rattle.nz_order.proofs.CandidateLaws.{cone_split}
@@ -33,7 +28,6 @@ use Rattle.nz_order.proofs.OrderLaws.{lex_irreflexive}
 use Rattle.nz_order.proofs.SortLaws.{IsListOf-once}
 use Rattle.nz_order.specs.Totals.{IsTotalOf}
 use Rattle.nz_order.proofs.TotalLaws.{IsTotalOf-one, IsTotalOf-plus, IsTotalOf-weaker, IsTotalOf-counts}
-use Rattle.nz_vec.specs.Primitives.{IsPrimitivePart}
 use Rattle.nz_pointed.specs.Pointed as pointed
 use Rattle.nz_classes.specs.Classes.{IsPoint}
 use Rattle.nz_classes.specs.Walks.{paired, IsFullSimplex}

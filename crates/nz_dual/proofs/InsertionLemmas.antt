@@ -1,8 +1,8 @@
 -- The rows of a simplex and the other rows, one after another.
-use Rattle.std.proofs.Common.{◌≡◌, ◌⊎◌, inl, inr, ℕ, zero, suc, ◌+◌, ◌-◌, ◌<◌, ◌≤◌, List, [], ◌∷◌, ◌++◌, length, take, drop, get_or, pos, false, refl, sym, ap, ◌∙◌, subst, arith}
+use Rattle.std.proofs.Common.{◌≡◌, ℕ, zero, suc, ◌+◌, ◌-◌, ◌<◌, ◌≤◌, List, [], ◌∷◌, ◌++◌, length, take, drop, get_or, false, refl, sym, ap, ◌∙◌, subst, arith}
 use Rattle.std.proofs.lemmas.List.{take_more, take_all, length-take-le, length-append, append_assoc, append-nil, length-map}
 use Rattle.std.specs.List.{AllByRecursion as Each}
-use Rattle.nz_spec.specs.Vectors.{Vector, dot, HasWidth}
+use Rattle.nz_spec.specs.Vectors.{Vector, HasWidth}
 use Rattle.nz_spec.specs.Covers.{vectors_at}
 use Rattle.nz_spec.specs.Order.{HasNumber}
 use Rattle.nz_spec.specs.Monoids.{IsIrreducible}
@@ -11,7 +11,6 @@ use Rattle.nz_linear.specs.Extreme.{IsPointed}
 use Rattle.nz_linear.proofs.Lists.{each_right}
 use Rattle.nz_vec.specs.declared.answers.Work.{Work}
 use Rattle.nz_pointed.specs.Pointed as pointed
-use Rattle.nz_edge.specs.Watching.{Pair}
 use Rattle.nz_edge.specs.Telling.{Watched, WasTold, HasPassed, HasPassedAll}
 use Rattle.nz_dual.specs.DualStages.{IsElement}
 use Rattle.nz_dual.specs.Runs.{AreOrderedStages, IsRunRefusal, IsStopAt}

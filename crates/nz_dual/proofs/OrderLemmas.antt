@@ -1,10 +1,10 @@
 -- The order in which rows are inserted: those of the simplex first, then the others.
-use Rattle.std.proofs.Common.{◌≡◌, ◌≢◌, ◌⊎◌, ⊎_elim, inl, inr, ℕ, zero, suc, ◌+◌, ◌<◌, ◌≤◌, List, [], ◌∷◌, ◌++◌, length, map, take, get_or, pos, ◌≤ℤ◌, Contains, refl, sym, ap, ap₂, ◌∙◌, subst, arith, add-one}
-use Rattle.std.proofs.lemmas.List.{take_more, take_all, map-append, length-map}
+use Rattle.std.proofs.Common.{◌≡◌, ◌⊎◌, ⊎_elim, inl, inr, ℕ, zero, suc, ◌+◌, ◌<◌, ◌≤◌, List, [], ◌∷◌, ◌++◌, length, take, get_or, pos, Contains, refl, sym, ap, ◌∙◌, subst, arith, add-one}
+use Rattle.std.proofs.lemmas.List.{take_more, take_all, map-append}
 use Rattle.std.specs.List.{AllByRecursion as Each}
 use Rattle.nz_spec.specs.Vectors.{Vector, dot, HasWidth}
 use Rattle.nz_spec.specs.Covers.{vectors_at}
-use Rattle.nz_spec.specs.Order.{Pairwise, IsListOf}
+use Rattle.nz_spec.specs.Order.{Pairwise}
 use Rattle.nz_spec.specs.Stages.{IsFreshRow, Separates, none, fresh, other}
 use Rattle.nz_spec.specs.Sums.{IsInSpan}
 use Rattle.nz_spec.proofs.EquationLaws.{zero_on_span, dot_comm}

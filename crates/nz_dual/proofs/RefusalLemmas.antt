@@ -1,13 +1,10 @@
 -- Which stage of a run is refused.
-use Rattle.std.proofs.Common.{◌≡◌, ◌⊎◌, ⊎_elim, inl, inr, ℕ, zero, suc, ◌+◌, ◌<◌, List, [], ◌∷◌, ◌++◌, length, take, drop, get_or, ℤ, refl, sym, ap, ◌∙◌, subst, arith}
-use Rattle.std.proofs.lemmas.List.{take_more}
-use Rattle.std.specs.List.{AllByRecursion as Each}
+use Rattle.std.proofs.Common.{◌≡◌, inl, inr, ℕ, zero, suc, ◌<◌, List, [], ◌∷◌, ◌++◌, length, take, drop, get_or, ℤ, refl, sym, ap, subst, arith}
 use Rattle.nz_spec.specs.Vectors.{Vector}
 use Rattle.nz_vec.specs.declared.answers.Work.{Work}
-use Rattle.nz_vec.specs.declared.answers.Work.TheVariants.{Range, TooMany, Stopped, NoMemory}
+use Rattle.nz_vec.specs.declared.answers.Work.TheVariants.{Range, Stopped}
 use Rattle.nz_dual.specs.DualStages.{IsInsertRefusal}
-use Rattle.nz_dual.specs.FirstStage.{IsStartRefusal}
-use Rattle.nz_dual.specs.Refusals.{IsInsertOf, IsRowOf}
+use Rattle.nz_dual.specs.Refusals.{IsRowOf}
 
 module _ (bound : ℤ) (limit w : ℕ) (chosen rays others : List Vector) where
   pub without_number : (number : ℕ) → IsRowOf bound limit w chosen rays others (Range number) → IsRowOf bound limit w chosen rays others (Range 0)

@@ -1,20 +1,19 @@
 -- The stages of ordered rows, and what was told of them.
-use Rattle.std.proofs.Common.{◌≡◌, ◌⊎◌, ⊎_elim, inl, inr, ℕ, zero, suc, ◌+◌, ◌-◌, ◌<◌, ◌≤◌, List, [], ◌∷◌, ◌++◌, length, take, drop, get_or, pos, true, false, Bool, refl, sym, ap, ap₂, ◌∙◌, subst, arith}
-use Rattle.std.specs.Prelude.{max}
+use Rattle.std.proofs.Common.{◌≡◌, ℕ, zero, suc, ◌+◌, ◌-◌, ◌<◌, ◌≤◌, List, [], ◌∷◌, ◌++◌, length, take, drop, get_or, pos, true, false, Bool, refl, sym, ap, ap₂, ◌∙◌, subst, arith}
 use Rattle.std.specs.List.{AllByRecursion as Each, AllZip, range_with_len}
-use Rattle.std.proofs.lemmas.List.{take_more, take_all, length-take-le}
+use Rattle.std.proofs.lemmas.List.{take_more, length-take-le}
 use Rattle.std.proofs.lemmas.List.FromFn.{length-range_with_len, get_or-range_with_len}
 use Rattle.std.proofs.lemmas.Slice.Zip.{AllZip-long}
 use Rattle.nz_spec.specs.Vectors.{Vector, dot, HasWidth}
 use Rattle.nz_spec.specs.Monoids.{IsIrreducible}
 use Rattle.nz_spec.specs.Order.{HasNumber}
-use Rattle.nz_spec.specs.Stages.{IsInStage, CountsStages}
+use Rattle.nz_spec.specs.Stages.{IsInStage}
 use Rattle.nz_spec.proofs.StageUnique.{HasNumber-unique}
 use Rattle.nz_linear.specs.Extreme.{IsPointed}
 use Rattle.nz_vec.specs.declared.answers.Work.{Work}
 use Rattle.nz_vec.specs.declared.answers.Work.TheVariants.{Range, TooMany, Stopped, NoMemory}
 use Rattle.nz_edge.specs.Watching.{Pair}
-use Rattle.nz_edge.specs.Telling.{Watched, WasTold, HasPassed, HasPassedAll, HasStopped, HasLeft}
+use Rattle.nz_edge.specs.Telling.{Watched, WasTold, HasPassed, HasPassedAll, HasStopped}
 use Rattle.nz_edge.proofs.TellingLemmas.{none_told, told_one_more}
 use Rattle.nz_dual.specs.Runs.{AreOrderedStages, IsRunRefusal, IsStopAt, IsLeftAs}
 use Rattle.nz_dual.proofs.FiniteLemmas.{finitely_many}

@@ -1,17 +1,17 @@
 -- The forms of the first stage: the primitive rows are the dual forms of the rays, and what is too large among them.
-use Rattle.std.proofs.Common.{◌≡◌, ◌⊎◌, ⊎_elim, inl, inr, ℕ, zero, suc, ◌<◌, List, [], ◌∷◌, ◌++◌, length, map, ℤ, pos, negsuc, ◌+ℤ◌, ◌*ℤ◌, ◌≤ℤ◌, ◌<ℤ◌, Contains, refl, sym, ap, ap₂, ◌∙◌, subst, arith}
+use Rattle.std.proofs.Common.{◌≡◌, ⊎_elim, inl, inr, ℕ, suc, ◌<◌, List, [], ◌∷◌, ◌++◌, length, map, ℤ, pos, negsuc, ◌*ℤ◌, ◌≤ℤ◌, ◌<ℤ◌, Contains, refl, sym, ap, ap₂, ◌∙◌, subst, arith}
 use Rattle.std.specs.Prelude.{unsigned_abs}
 use Rattle.std.proofs.lemmas.Int.{ints}
 use Rattle.std.proofs.Math.IntN.{zero-*ℤ, *ℤ-zero}
 use Rattle.std.proofs.lemmas.List.{append_assoc, map-append}
 use Rattle.std.specs.List.{AllByRecursion as Each, AllZip}
-use Rattle.nz_spec.specs.Vectors.{Vector, dot, scaled, plus, entry, zero_vector, HasWidth, IsNonzero, IsPrimitive}
-use Rattle.nz_spec.specs.Forms.{IsOtherColumn, IsDualForm, IsNormalForm, LeadsAt}
+use Rattle.nz_spec.specs.Vectors.{Vector, dot, scaled, plus, HasWidth, IsPrimitive}
+use Rattle.nz_spec.specs.Forms.{IsOtherColumn, IsDualForm, IsNormalForm}
 use Rattle.nz_spec.specs.Sums.{IsInSpan, IsIndependent}
 use Rattle.nz_spec.proofs.ListLaws.{Each-contains, Each-from_contains}
 use Rattle.nz_spec.proofs.VectorLaws.{length-scaled, dot-IsZero}
 use Rattle.nz_spec.proofs.EquationLaws.{dot_comm}
-use Rattle.nz_linear.specs.DualPairs.{Pair, pair_of, divisor, IsApart, HasWidths, IsDual, IsDualPair, OnlyZero, AllVanish}
+use Rattle.nz_linear.specs.DualPairs.{Pair, pair_of, IsApart, HasWidths, IsDual, AllVanish}
 use Rattle.nz_linear.specs.Echelon.{unit_at}
 use Rattle.nz_linear.proofs.Units.{length-unit_at, entry-unit_own, entry-unit_other, leads_at}
 use Rattle.nz_linear.proofs.Division.{gcd_of, common_divides_gcd}
@@ -24,10 +24,10 @@ use Rattle.nz_scalar.specs.Room.{HasRoom}
 use Rattle.nz_scalar.specs.Division.{HasGcd}
 use Rattle.nz_vec.specs.Primitives.{IsPrimitivePart}
 use Rattle.nz_classes.specs.Walks.{paired, IsFullSimplex}
-use Rattle.nz_range.specs.Measures.{measure, pair_measure, SomeLarge, SomeLargeAt}
+use Rattle.nz_range.specs.Measures.{measure, pair_measure, SomeLarge}
 use Rattle.nz_range.proofs.Fits.{gcd_fits}
 use Rattle.nz_range.proofs.Causes.{or_large, value_cause}
-use Rattle.nz_spec.specs.Order.{IsLexBefore, IsListOf, MoreThan}
+use Rattle.nz_spec.specs.Order.{IsLexBefore, IsListOf}
 use Rattle.nz_order.proofs.OrderLaws.{lex_irreflexive}
 use Rattle.nz_order.proofs.SortLaws.{IsListOf-once, MoreThan-list}
 use Rattle.nz_vec.specs.declared.answers.Num.{Num}

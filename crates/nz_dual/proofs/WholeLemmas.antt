@@ -1,5 +1,5 @@
 -- From the stages of ordered rows to the stages of the rows, and the last list.
-use Rattle.std.proofs.Common.{◌≡◌, ℕ, List, [], ◌∷◌, ◌++◌, length, pos, ◌≤ℤ◌, ℤ, false, refl, sym, ap, ◌∙◌, subst}
+use Rattle.std.proofs.Common.{◌≡◌, ℕ, List, [], ◌++◌, length, pos, ◌≤ℤ◌, false, refl, subst}
 use Rattle.std.specs.List.{AllByRecursion as Each}
 use Rattle.nz_spec.specs.Vectors.{Vector, dot, HasWidth}
 use Rattle.nz_spec.specs.Covers.{vectors_at}

@@ -1,4 +1,4 @@
-use Rattle.std.proofs.Common.{◌∙◌, ◌≤◌, ◌<◌, ◌+◌, ℕ, List, length, sym, subst, arith}
+use Rattle.std.proofs.Common.{◌∙◌, ◌<◌, ◌+◌, ℕ, List, length, sym, subst, arith}
 use Rattle.nz_spec.specs.Vectors.{Vector}
 use Rattle.nz_dual.proofs.OrderLemmas.{IsSplitUpTo, split_none, split_chosen, split_other, split_all}
 use Rattle.nz_dual.proofs.ordering.other_rows.Goals as goal

@@ -1,4 +1,4 @@
-use Rattle.std.proofs.Common.{◌≡◌, ◌<◌, ◌≤◌, ◌+◌, ◌++◌, ℕ, inl, length, arith, refl, sym, ap, ◌∙◌, subst}
+use Rattle.std.proofs.Common.{◌≡◌, ◌<◌, ◌≤◌, ◌+◌, ◌++◌, ℕ, inl, length, arith, sym, ◌∙◌, subst}
 use Rattle.nz_spec.specs.Covers.{vectors_at}
 use Rattle.nz_dual.specs.DualStages.{IsInsertRefusal}
 use Rattle.nz_dual.specs.Runs.{AreOrderedStages}

@@ -1,4 +1,4 @@
-use Rattle.std.proofs.Common.{◌≡◌, ◌++◌, length, refl, sym, ◌∙◌, false}
+use Rattle.std.proofs.Common.{◌++◌, length, false}
 use Rattle.nz_spec.specs.Vectors.{HasWidth}
 use Rattle.nz_spec.specs.Covers.{vectors_at}
 use Rattle.nz_spec.specs.Stages.{AreStages}

@@ -1,6 +1,4 @@
-use Rattle.std.proofs.Common.{◌∙◌, ◌++◌, ap}
-use Rattle.nz_spec.specs.Vectors.{Vector}
-use Rattle.nz_dual.proofs.StartFormLemmas.{primitive_simplex, forms_refused, walk_refused, start_no_memory}
+use Rattle.nz_dual.proofs.StartFormLemmas.{primitive_simplex, forms_refused, walk_refused}
 use Rattle.nz_dual.proofs.starting.candidates_of.Goals as goal
 
 pub returns-in-Err : goal.returns-in-Err

@@ -1,4 +1,4 @@
-use Rattle.std.proofs.Common.{◌<◌, ◌≤◌, List, [], length, take, sym, subst, arith}
+use Rattle.std.proofs.Common.{◌<◌, List, [], length, take, sym, subst, arith}
 use Rattle.std.specs.Prelude.{Contains}
 use Rattle.std.specs.List.{AllZip}
 use Rattle.nz_spec.specs.Vectors.{Vector}

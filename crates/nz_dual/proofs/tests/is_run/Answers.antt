@@ -1,4 +1,4 @@
-use Rattle.std.proofs.Common.{ℕ, length, subst}
+use Rattle.std.proofs.Common.{ℕ, subst}
 use Rattle.std.specs.List.{AllByRecursion as Each}
 use Rattle.nz_spec.specs.Vectors.{HasWidth}
 use Rattle.nz_pointed.specs.Pointed.{IsAnswer}

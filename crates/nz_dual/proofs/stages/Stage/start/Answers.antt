@@ -1,13 +1,9 @@
-use Rattle.std.proofs.Common.{◌∙◌, ◌<◌, ℕ, List, length, sym, subst, ap}
-use Rattle.std.proofs.lemmas.List.{length-map}
+use Rattle.std.proofs.Common.{◌<◌, List, length, sym, subst}
 use Rattle.nz_spec.specs.Vectors.{Vector}
-use Rattle.nz_spec.specs.Covers.{vectors_at}
 use Rattle.nz_pointed.specs.Pointed.{IsNew}
 use Rattle.nz_classes.specs.Walks.{IsFullSimplex}
 use Rattle.nz_linear.proofs.Lists.{each_map}
-use Rattle.nz_dual.specs.FirstStage.{IsStartRefusal}
 use Rattle.nz_dual.proofs.FirstStageLemmas.{full_simplex, first_stage}
-use Rattle.nz_dual.proofs.StartFormLemmas.{start_no_memory}
 use Rattle.nz_dual.proofs.stages.Stage.start.Goals as goal
 
 pub rows_at-requires : goal.rows_at-requires
