@@ -13,13 +13,14 @@ use Rattle.nz_order.proofs.OrderLaws.{Each-both}
 use Rattle.nz_input.specs.Files.{ItemData, FileData, IsItem, IsFile}
 use Rattle.nz_input.specs.Words.{columns}
 use Rattle.nz_input.specs.declared.kind.Kind.{Kind}
+use Rattle.nz_input.specs.declared.kind.Goal.{Goal}
 use Rattle.nz_box.specs.Congruences.{congruence_of, congruence_system, IsCongruenceRow}
 use Rattle.nz_system.specs.declared.groups.Group.TheVariants as group
 use Rattle.nz_system.specs.Groups.{occurs}
 use Rattle.nz_system.specs.Asked.{goals_of}
 use Rattle.nz_system.specs.Meaning.{all_given}
 use Rattle.nz_system.proofs.Keeping.{all-fit, modulus-widths}
-use Rattle.nz_run.specs.Built.{IsBuiltItem, IsBuilt}
+use Rattle.nz_run.specs.Built.{IsBuiltItem}
 use Rattle.nz_run.specs.FileSystems.{rows_of, HasMeaning}
 use Rattle.nz_run.proofs.BuiltSystems.{system_is}
 
@@ -39,17 +40,17 @@ row_widths d [] h k = tt
 row_widths d (item ∷ items) h k = each_append (HasWidth (d + 1)) item.rows (rows_of items) (item_widths d item h.0 k.0) (row_widths d items h.1 k.1)
 
 -- each modulus is at least 1, since the file breaks no rule
-row_moduli : (file : FileData) → IsFile file → HasMeaning file → IsBuilt file → Each (λ (r : Vector). pos 1 ≤ℤ (congruence_of r).modulus) (rows_of file.items)
-row_moduli file f m b =
+row_moduli : (file : FileData) (goals : List Goal) → IsFile file → HasMeaning file goals → Each IsBuiltItem file.items → Each (λ (r : Vector). pos 1 ≤ℤ (congruence_of r).modulus) (rows_of file.items)
+row_moduli file goals f m b =
     let level = occurs group.Leveled file.items in
     each_unmap (λ (c : Congruence). pos 1 ≤ℤ c.modulus) congruence_of (rows_of file.items)
     (subst (λ (s : System). Each (λ (c : Congruence). pos 1 ≤ℤ c.modulus) s.cg) (system_is file b)
-    (modulus-widths level file.amb (all_given level file) (all-fit file (goals_of file []) f m)))
+    (modulus-widths level file.amb (all_given level file) (all-fit file (goals_of file goals) f m)))
 
 -- each row is a congruence of the file's dimension
-pub built_rows : (file : FileData) → IsFile file → HasMeaning file → IsBuilt file → Each (IsCongruenceRow file.amb) (rows_of file.items)
-built_rows file f m b = Each-both (HasWidth (file.amb + 1)) (λ (r : Vector). pos 1 ≤ℤ (congruence_of r).modulus) (IsCongruenceRow file.amb)
-    (λ r w n. record { width = w; modulus = n }) (rows_of file.items) (row_widths file.amb file.items f.items_keep b.items) (row_moduli file f m b)
+pub built_rows : (file : FileData) (goals : List Goal) → IsFile file → HasMeaning file goals → Each IsBuiltItem file.items → Each (IsCongruenceRow file.amb) (rows_of file.items)
+built_rows file goals f m b = Each-both (HasWidth (file.amb + 1)) (λ (r : Vector). pos 1 ≤ℤ (congruence_of r).modulus) (IsCongruenceRow file.amb)
+    (λ r w n. record { width = w; modulus = n }) (rows_of file.items) (row_widths file.amb file.items f.items_keep b) (row_moduli file goals f m b)
 
 -- the list of the irreducible elements is the Hilbert basis, as there is no level and no grading
 pub is_basis : (d : ℕ) (rows list : List Vector) → IsListOf IsLexBefore (IsIrreducible (IsMember (congruence_system d rows))) list → IsHilbertBasis (congruence_system d rows) list

@@ -17,7 +17,7 @@ use Rattle.nz_system.specs.Contributions.{front, last, coordinate_form, sign_for
 use Rattle.nz_system.specs.Meaning.{zero_of, multiple_of, not_negative_of, generator_of, lattice_of, degree_of, asked_of, there, orthant, orthant_where, all_given, system_given, system_of}
 use Rattle.nz_system.specs.Rules.{first}
 use Rattle.nz_box.specs.Congruences.{congruence_of, congruence_system}
-use Rattle.nz_run.specs.Built.{IsBuiltItem, IsBuilt}
+use Rattle.nz_run.specs.Built.{IsBuiltItem}
 use Rattle.nz_run.specs.FileSystems.{rows_of}
 
 -- ---- the orthant
@@ -111,11 +111,11 @@ moduli-of [] [] = refl
 moduli-of [] (f ∷ forms) = moduli-of [] forms
 moduli-of (r ∷ rows) forms = ap (λ (cs : List Congruence). congruence_of r ∷ cs) (moduli-of rows forms)
 
-all-is : (file : FileData) → IsBuilt file → all_given false file ≡ all_of (rows_of file.items) (unit_vectors file.amb)
+all-is : (file : FileData) → Each IsBuiltItem file.items → all_given false file ≡ all_of (rows_of file.items) (unit_vectors file.amb)
 all-is file b =
-    ap (λ (cs : List Contribution). cs ++ (orthant false file ++ [])) (items-give file.items b.items)
+    ap (λ (cs : List Contribution). cs ++ (orthant false file ++ [])) (items-give file.items b)
     ∙ ap (λ (cs : List Contribution). map condition (rows_of file.items) ++ cs) (append-nil (orthant false file))
-    ∙ ap (λ x. map condition (rows_of file.items) ++ orthant_where (not x) false file.amb) (absent group.Bounding refl file.items b.items)
+    ∙ ap (λ x. map condition (rows_of file.items) ++ orthant_where (not x) false file.amb) (absent group.Bounding refl file.items b)
     ∙ ap (λ (cs : List Contribution). map condition (rows_of file.items) ++ cs) (orthant-units file.amb)
 
 abbrev pub made : ℕ → List Vector → List Congruence → List Vector → Option (List Vector) → Option (List Vector) → Option Vector → Option (List Vector) → System
@@ -132,18 +132,18 @@ made-same w e e2 c c2 g g2 n n2 t t2 d d2 a a2 pe pc pg pn pt pd pa =
     ∙ ap (λ (x : Option (List Vector)). made w e2 c2 g2 n2 t2 d2 x) pa
 
 -- the system of a file of congruences is theirs over the orthant
-pub system_is : (file : FileData) → IsBuilt file → system_of file ≡ congruence_system file.amb (rows_of file.items)
+pub system_is : (file : FileData) → Each IsBuiltItem file.items → system_of file ≡ congruence_system file.amb (rows_of file.items)
 system_is file b =
     let rows = rows_of file.items in
     let forms = unit_vectors file.amb in
     let cs = all_of rows forms in
-    ap (λ (l : Bool). system_given l file (all_given l file)) (absent group.Leveled refl file.items b.items)
+    ap (λ (l : Bool). system_given l file (all_given l file)) (absent group.Leveled refl file.items b)
     ∙ ap (λ (all : List Contribution). system_given false file all) (all-is file b)
     ∙ made-same file.amb (flat_map zero_of cs) [] (flat_map multiple_of cs) (map congruence_of rows) (flat_map not_negative_of cs) forms (there (occurs group.Generating file.items) (flat_map generator_of cs)) None (there (occurs group.ConeAndLattice file.items) (flat_map lattice_of cs)) None (first (flat_map degree_of cs)) None (there (occurs group.Ask file.items) (flat_map asked_of cs)) None
     (none-of zero_of (λ r. refl) (λ f. refl) rows forms)
     (moduli-of rows forms)
     (forms-of rows forms)
-    (ap (λ x. there x (flat_map generator_of cs)) (absent group.Generating refl file.items b.items))
-    (ap (λ x. there x (flat_map lattice_of cs)) (absent group.ConeAndLattice refl file.items b.items))
+    (ap (λ x. there x (flat_map generator_of cs)) (absent group.Generating refl file.items b))
+    (ap (λ x. there x (flat_map lattice_of cs)) (absent group.ConeAndLattice refl file.items b))
     (ap (λ (ds : List Vector). first ds) (none-of degree_of (λ r. refl) (λ f. refl) rows forms))
-    (ap (λ x. there x (flat_map asked_of cs)) (absent group.Ask refl file.items b.items))
+    (ap (λ x. there x (flat_map asked_of cs)) (absent group.Ask refl file.items b))

@@ -10,9 +10,10 @@ use Rattle.nz_edge.specs.declared.folder.Load.TheVariants as load
 use Rattle.nz_edge.specs.declared.folder.Stored.TheVariants as stored
 use Rattle.nz_run.specs.declared.status.Status.{Status}
 use Rattle.nz_run.specs.declared.status.Status.TheVariants.{Done, Usage, Absent, ReadFault, TooLong, Grammar, Meaning, NotBuilt, Crowded, WriteFault, NoMemory}
-use Rattle.nz_run.specs.Words.{AreWordsFor, input_name, output_name}
+use Rattle.nz_input.specs.declared.kind.Goal.{Goal}
+use Rattle.nz_words.specs.Orders.{OrderData, IsOrder, input_name}
 use Rattle.nz_run.specs.Statuses.{status_line}
-use Rattle.nz_run.specs.Runs.{IsInput, IsSolved, IsCauseOrMemory, Leaves, ExplainsFor, Explains, CountRose, StoreCount, PutsLine}
+use Rattle.nz_run.specs.Runs.{output_name, IsInput, IsSolved, IsCauseOrMemory, Leaves, ExplainsFor, Explains, CountRose, StoreCount, PutsLine}
 
 pub told_weaker : {A : Type 0} (o n : Option A) (P Q : A → A → Type 0) → BothTold o n P → ((a b : A) → P a b → Q a b) → BothTold o n Q
 told_weaker None None P Q h w = tt
@@ -31,41 +32,41 @@ same_trans a b c h k = λ name. k name ∙ h name
 others_trans : (name : Text) (a b c : Files) → SameFiles a b → SameOthers name b c → SameOthers name a c
 others_trans name a b c h k = λ other ne. k other ne ∙ h other
 
-explains : (project input : Text) (f f' : ℕ) (r : Status) (a b c : Files) → SameFiles a b → IsInput project a input → Leaves (output_name project) input r b c → ExplainsFor project f f' r a c
-explains project input f f' Done a b c h i s = (input, i, (s.0, s.1, record { stored = s.2.stored; others = others_trans (output_name project) a b c h s.2.others }))
-explains project input f f' Usage a b c h i s = s.0
-explains project input f f' Absent a b c h i s = absurd s.0
-explains project input f f' ReadFault a b c h i s = absurd s.0
-explains project input f f' TooLong a b c h i s = (input, i, (s.0, same_trans a b c h s.1))
-explains project input f f' (Grammar l k g) a b c h i s = (input, i, (s.0, same_trans a b c h s.1))
-explains project input f f' (Meaning l k g) a b c h i s = (input, i, (s.0, same_trans a b c h s.1))
-explains project input f f' (NotBuilt w) a b c h i s = (input, i, (s.0, same_trans a b c h s.1))
-explains project input f f' Crowded a b c h i s = (input, i, (s.0, same_trans a b c h s.1))
-explains project input f f' WriteFault a b c h i s = (input, i, (s.0, s.1, others_trans (output_name project) a b c h s.2))
-explains project input f f' NoMemory a b c h i s = same_trans a b c h s
+explains : (project : Text) (goals : List Goal) (input : Text) (f f' : ℕ) (r : Status) (a b c : Files) → SameFiles a b → IsInput project a input → Leaves goals (output_name project) input r b c → ExplainsFor project goals f f' r a c
+explains project goals input f f' Done a b c h i s = (input, i, (s.0, s.1, record { stored = s.2.stored; others = others_trans (output_name project) a b c h s.2.others }))
+explains project goals input f f' Usage a b c h i s = s.0
+explains project goals input f f' Absent a b c h i s = absurd s.0
+explains project goals input f f' ReadFault a b c h i s = absurd s.0
+explains project goals input f f' TooLong a b c h i s = (input, i, (s.0, same_trans a b c h s.1))
+explains project goals input f f' (Grammar l k g) a b c h i s = (input, i, (s.0, same_trans a b c h s.1))
+explains project goals input f f' (Meaning l k g) a b c h i s = (input, i, (s.0, same_trans a b c h s.1))
+explains project goals input f f' (NotBuilt w) a b c h i s = (input, i, (s.0, same_trans a b c h s.1))
+explains project goals input f f' Crowded a b c h i s = (input, i, (s.0, same_trans a b c h s.1))
+explains project goals input f f' WriteFault a b c h i s = (input, i, (s.0, s.1, others_trans (output_name project) a b c h s.2))
+explains project goals input f f' NoMemory a b c h i s = same_trans a b c h s
 
 -- what was loaded, then solved and stored
-pub loaded_and_stored : (project input in_name out_name : Text) (f f' : ℕ) (r : Status) (o m n : Option Files) → in_name ≡ input_name project → out_name ≡ output_name project → BothTold o m SameFiles → OnTold o (λ files. LoadGives files in_name 16777216 f f' (load.Bytes input)) → BothTold m n (Leaves out_name input r) → BothTold o n (ExplainsFor project f f' r)
-loaded_and_stored project input in_name out_name f f' r None None None p q h g s = tt
-loaded_and_stored project input in_name out_name f f' r None None (Some c) p q h g s = s
-loaded_and_stored project input in_name out_name f f' r None (Some b) n p q h g s = absurd h
-loaded_and_stored project input in_name out_name f f' r (Some a) None n p q h g s = absurd h
-loaded_and_stored project input in_name out_name f f' r (Some a) (Some b) None p q h g s = s
-loaded_and_stored project input in_name out_name f f' r (Some a) (Some b) (Some c) p q h g s =
-    explains project input f f' r a b c h (record { whole = g.0; there = subst (λ (t : Text). a t ≡ Some g.0) p g.1; cut = g.2 }) (subst (λ (t : Text). Leaves t input r b c) q s)
+pub loaded_and_stored : (project : Text) (goals : List Goal) (input in_name out_name : Text) (f f' : ℕ) (r : Status) (o m n : Option Files) → in_name ≡ input_name project → out_name ≡ output_name project → BothTold o m SameFiles → OnTold o (λ files. LoadGives files in_name 16777216 f f' (load.Bytes input)) → BothTold m n (Leaves goals out_name input r) → BothTold o n (ExplainsFor project goals f f' r)
+loaded_and_stored project goals input in_name out_name f f' r None None None p q h g s = tt
+loaded_and_stored project goals input in_name out_name f f' r None None (Some c) p q h g s = s
+loaded_and_stored project goals input in_name out_name f f' r None (Some b) n p q h g s = absurd h
+loaded_and_stored project goals input in_name out_name f f' r (Some a) None n p q h g s = absurd h
+loaded_and_stored project goals input in_name out_name f f' r (Some a) (Some b) None p q h g s = s
+loaded_and_stored project goals input in_name out_name f f' r (Some a) (Some b) (Some c) p q h g s =
+    explains project goals input f f' r a b c h (record { whole = g.0; there = subst (λ (t : Text). a t ≡ Some g.0) p g.1; cut = g.2 }) (subst (λ (t : Text). Leaves goals t input r b c) q s)
 
 -- what was not loaded
-pub loaded_absent : (project in_name : Text) (f f' : ℕ) (o m : Option Files) → in_name ≡ input_name project → BothTold o m SameFiles → OnTold o (λ files. LoadGives files in_name 16777216 f f' load.Absent) → BothTold o m (ExplainsFor project f f' Absent)
-loaded_absent project in_name f f' None None p h g = tt
-loaded_absent project in_name f f' None (Some b) p h g = h
-loaded_absent project in_name f f' (Some a) None p h g = h
-loaded_absent project in_name f f' (Some a) (Some b) p h g = (λ q. subst (λ (t : Text). a t ≡ None) p (g q), h)
+pub loaded_absent : (project : Text) (goals : List Goal) (in_name : Text) (f f' : ℕ) (o m : Option Files) → in_name ≡ input_name project → BothTold o m SameFiles → OnTold o (λ files. LoadGives files in_name 16777216 f f' load.Absent) → BothTold o m (ExplainsFor project goals f f' Absent)
+loaded_absent project goals in_name f f' None None p h g = tt
+loaded_absent project goals in_name f f' None (Some b) p h g = h
+loaded_absent project goals in_name f f' (Some a) None p h g = h
+loaded_absent project goals in_name f f' (Some a) (Some b) p h g = (λ q. subst (λ (t : Text). a t ≡ None) p (g q), h)
 
 -- a refusal before the store
-pub refused_before : (name input : Text) (r : Status) (o n : Option Files) → IsCauseOrMemory input r → o ≡ n → BothTold o n (Leaves name input r)
-refused_before name input r o n h e = subst (λ (m : Option Files). BothTold o m (Leaves name input r)) e (told_same o (Leaves name input r) (same r h))
+pub refused_before : (goals : List Goal) (name input : Text) (r : Status) (o n : Option Files) → IsCauseOrMemory goals input r → o ≡ n → BothTold o n (Leaves goals name input r)
+refused_before goals name input r o n h e = subst (λ (m : Option Files). BothTold o m (Leaves goals name input r)) e (told_same o (Leaves goals name input r) (same r h))
   where
-    same : (r : Status) → IsCauseOrMemory input r → (a : Files) → Leaves name input r a a
+    same : (r : Status) → IsCauseOrMemory goals input r → (a : Files) → Leaves goals name input r a a
     same Done h a = absurd h
     same Usage h a = absurd h
     same Absent h a = absurd h
@@ -78,24 +79,24 @@ refused_before name input r o n h e = subst (λ (m : Option Files). BothTold o m
     same WriteFault h a = absurd h
     same NoMemory h a = λ t. refl
 
-pub stored_done : (name input output bytes : Text) (o n : Option Files) → IsSolved input output → bytes ≡ output → BothTold o n (λ old new. StoreLeaves name bytes old new stored.Done) → BothTold o n (Leaves name input Done)
-stored_done name input output bytes o n s e h = told_weaker o n (λ old new. StoreLeaves name bytes old new stored.Done) (Leaves name input Done) h (λ a b k. (output, s, subst (λ (t : Text). Stores name t a b) e k))
+pub stored_done : (goals : List Goal) (name input output bytes : Text) (o n : Option Files) → IsSolved goals input output → bytes ≡ output → BothTold o n (λ old new. StoreLeaves name bytes old new stored.Done) → BothTold o n (Leaves goals name input Done)
+stored_done goals name input output bytes o n s e h = told_weaker o n (λ old new. StoreLeaves name bytes old new stored.Done) (Leaves goals name input Done) h (λ a b k. (output, s, subst (λ (t : Text). Stores name t a b) e k))
 
-pub stored_failed : (name input output bytes : Text) (o n : Option Files) → IsSolved input output → BothTold o n (λ old new. StoreLeaves name bytes old new stored.Failed) → BothTold o n (Leaves name input WriteFault)
-stored_failed name input output bytes o n s h = told_weaker o n (λ old new. StoreLeaves name bytes old new stored.Failed) (Leaves name input WriteFault) h (λ a b k. (output, s, k))
+pub stored_failed : (goals : List Goal) (name input output bytes : Text) (o n : Option Files) → IsSolved goals input output → BothTold o n (λ old new. StoreLeaves name bytes old new stored.Failed) → BothTold o n (Leaves goals name input WriteFault)
+stored_failed goals name input output bytes o n s h = told_weaker o n (λ old new. StoreLeaves name bytes old new stored.Failed) (Leaves goals name input WriteFault) h (λ a b k. (output, s, k))
 
-pub refused_count : (input : Text) (r : Status) (a b : ℕ) → IsCauseOrMemory input r → StoreCount r a b
-refused_count input Done a b h = tt
-refused_count input Usage a b h = h
-refused_count input Absent a b h = h
-refused_count input ReadFault a b h = h
-refused_count input TooLong a b h = tt
-refused_count input (Grammar l k g) a b h = tt
-refused_count input (Meaning l k g) a b h = tt
-refused_count input (NotBuilt w) a b h = tt
-refused_count input Crowded a b h = tt
-refused_count input WriteFault a b h = absurd h
-refused_count input NoMemory a b h = tt
+pub refused_count : (goals : List Goal) (input : Text) (r : Status) (a b : ℕ) → IsCauseOrMemory goals input r → StoreCount r a b
+refused_count goals input Done a b h = tt
+refused_count goals input Usage a b h = h
+refused_count goals input Absent a b h = h
+refused_count goals input ReadFault a b h = h
+refused_count goals input TooLong a b h = tt
+refused_count goals input (Grammar l k g) a b h = tt
+refused_count goals input (Meaning l k g) a b h = tt
+refused_count goals input (NotBuilt w) a b h = tt
+refused_count goals input Crowded a b h = tt
+refused_count goals input WriteFault a b h = absurd h
+refused_count goals input NoMemory a b h = tt
 
 pub count_of_store : (r : Status) (f f' m m' s s' t t' : ℕ) → t ≡ s → t' ≡ s' → StoreCount r s s' → CountRose r f f' m m' t t'
 count_of_store Done f f' m m' s s' t t' d e h = tt
@@ -113,20 +114,20 @@ count_of_store NoMemory f f' m m' s s' t t' d e h = tt
 pub store_not_usage : (r : Status) (a b : ℕ) → StoreCount r a b → r ≡ Usage → ⊥
 store_not_usage r a b h e = (let k = subst (λ (s : Status). StoreCount s a b) e h in k)
 
-pub explains_words : (words : List Text) (project : Text) (f f' : ℕ) (r : Status) (o n : Option Files) → AreWordsFor project words → (r ≡ Usage → ⊥) → BothTold o n (ExplainsFor project f f' r) → BothTold o n (Explains words f f' r)
-explains_words words project f f' r o n w u h = told_weaker o n (ExplainsFor project f f' r) (Explains words f f' r) h (go r u)
+pub explains_words : (words : List Text) (order : OrderData) (f f' : ℕ) (r : Status) (o n : Option Files) → IsOrder words order → (r ≡ Usage → ⊥) → BothTold o n (ExplainsFor order.project order.goals f f' r) → BothTold o n (Explains words f f' r)
+explains_words words order f f' r o n w u h = told_weaker o n (ExplainsFor order.project order.goals f f' r) (Explains words f f' r) h (go r u)
   where
-    go : (r : Status) → (r ≡ Usage → ⊥) → (a b : Files) → ExplainsFor project f f' r a b → Explains words f f' r a b
-    go Done u a b h = (project, w, h)
+    go : (r : Status) → (r ≡ Usage → ⊥) → (a b : Files) → ExplainsFor order.project order.goals f f' r a b → Explains words f f' r a b
+    go Done u a b h = (order, w, h)
     go Usage u a b h = absurd h
-    go Absent u a b h = (project, w, h)
-    go ReadFault u a b h = (project, w, h)
-    go TooLong u a b h = (project, w, h)
-    go (Grammar l k g) u a b h = (project, w, h)
-    go (Meaning l k g) u a b h = (project, w, h)
-    go (NotBuilt v) u a b h = (project, w, h)
-    go Crowded u a b h = (project, w, h)
-    go WriteFault u a b h = (project, w, h)
+    go Absent u a b h = (order, w, h)
+    go ReadFault u a b h = (order, w, h)
+    go TooLong u a b h = (order, w, h)
+    go (Grammar l k g) u a b h = (order, w, h)
+    go (Meaning l k g) u a b h = (order, w, h)
+    go (NotBuilt v) u a b h = (order, w, h)
+    go Crowded u a b h = (order, w, h)
+    go WriteFault u a b h = (order, w, h)
     go NoMemory u a b h = h
 
 rose_loud : (f f' : ℕ) → Rose f f' → IsQuiet f f' → ⊥

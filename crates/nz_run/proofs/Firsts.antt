@@ -1,6 +1,7 @@
 -- The first of a list that a property fails of, found by place.
-use Rattle.std.proofs.Common.{◌≡◌, ℕ, zero, suc, ◌+◌, ◌<◌, ◌≤◌, ◌⊎◌, inl, inr, List, [], ◌∷◌, length, refl, sym, ap, ◌∙◌, subst, arith, Some}
-use Rattle.std.specs.Prelude.{slice_get}
+use Rattle.std.proofs.Common.{◌≡◌, ℕ, zero, suc, ◌+◌, ◌<◌, ◌≤◌, ◌⊎◌, inl, inr, List, [], ◌∷◌, ◌++◌, length, refl, sym, ap, ◌∙◌, subst, arith, Some}
+use Rattle.std.specs.Prelude.{slice_get, Option, None, MatchOption}
+use Rattle.std.proofs.lemmas.List.{append_assoc}
 use Rattle.std.specs.List.{AllByRecursion as Each}
 use Rattle.nz_run.specs.Built.{IsFirstNot}
 
@@ -34,3 +35,19 @@ first_not P (y ∷ ys) zero x h e n = record { before = []; after = ys; whole = 
 first_not P (y ∷ ys) (suc k) x h e n =
     let r = first_not P ys k x (λ i m. h (suc i) (omega arith)) e n in
     record { before = y ∷ r.before; after = r.after; whole = ap (λ zs. y ∷ zs) r.whole; are = (h 0 (omega arith) y refl, r.are); not = n }
+
+pub each_both : {A : Type 0} (P : A → Type 0) (xs ys : List A) → Each P xs → Each P ys → Each P (xs ++ ys)
+each_both P [] ys h k = k
+each_both P (x ∷ xs) ys h k = (h.0, each_both P xs ys h.1 k)
+
+-- the first of two lists together
+pub first_before : {A : Type 0} (P : A → Type 0) (xs ys : List A) (x : A) → IsFirstNot P xs x → IsFirstNot P (xs ++ ys) x
+first_before P xs ys x f = record { before = f.before; after = f.after ++ ys; whole = ap (λ (zs : List _). zs ++ ys) f.whole ∙ append_assoc f.before (x ∷ f.after) ys; are = f.are; not = f.not }
+
+pub first_behind : {A : Type 0} (P : A → Type 0) (xs ys : List A) (x : A) → Each P xs → IsFirstNot P ys x → IsFirstNot P (xs ++ ys) x
+first_behind P xs ys x e f = record { before = xs ++ f.before; after = f.after; whole = ap (λ (zs : List _). xs ++ zs) f.whole ∙ sym (append_assoc xs f.before (x ∷ f.after)); are = each_both P xs f.before e f.are; not = f.not }
+
+-- where the first list has none, it is that of the second
+pub first_of_second : {A : Type 0} (P : A → Type 0) (xs ys : List A) (r : Option A) → Each P xs → MatchOption r (Each P ys) (IsFirstNot P ys) → MatchOption r (Each P (xs ++ ys)) (IsFirstNot P (xs ++ ys))
+first_of_second P xs ys None e h = each_both P xs ys e h
+first_of_second P xs ys (Some x) e h = first_behind P xs ys x e h

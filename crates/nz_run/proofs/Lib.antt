@@ -1,4 +1,3 @@
-pub mod WordsLemmas
 pub mod Composing
 pub mod Pieces
 pub mod Firsts

@@ -16,10 +16,10 @@ IsBuiltItem item = item.kind ≡ Congruences
 abbrev pub IsBuiltGoal : Goal → Type 0
 IsBuiltGoal goal = goal ≡ HilbertBasis
 
--- every item and every goal of the file is built
-pub record IsBuilt (file : FileData) : Type 0 where
+-- every item of the file is built, and every goal of the file and of the words
+pub record IsBuilt (file : FileData) (words : List Goal) : Type 0 where
   pub items : Each IsBuiltItem file.items
-  pub goals : Each IsBuiltGoal file.goals
+  pub goals : Each IsBuiltGoal (file.goals ++ words)
 
 -- x is the first of the list that is not P
 pub record IsFirstNot {A : Type 0} (P : A → Type 0) (xs : List A) (x : A) : Type 0 where
@@ -29,7 +29,7 @@ pub record IsFirstNot {A : Type 0} (P : A → Type 0) (xs : List A) (x : A) : Ty
   pub are : Each P before
   pub not : ¬ P x
 
--- the word is that of the first item that is not built, or, where all items are, of the first goal that is not
-abbrev pub IsFirstUnbuilt : FileData → Keyword → Type 0
-IsFirstUnbuilt file (keyword.Item kind) = (item : ItemData) × IsFirstNot IsBuiltItem file.items item × (item.kind ≡ kind)
-IsFirstUnbuilt file (keyword.Goal goal) = Each IsBuiltItem file.items × IsFirstNot IsBuiltGoal file.goals goal
+-- the word is that of the first item that is not built, or, where all items are, of the first goal that is not: those of the file come first
+abbrev pub IsFirstUnbuilt : FileData → List Goal → Keyword → Type 0
+IsFirstUnbuilt file words (keyword.Item kind) = (item : ItemData) × IsFirstNot IsBuiltItem file.items item × (item.kind ≡ kind)
+IsFirstUnbuilt file words (keyword.Goal goal) = Each IsBuiltItem file.items × IsFirstNot IsBuiltGoal (file.goals ++ words) goal

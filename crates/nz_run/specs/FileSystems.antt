@@ -3,6 +3,7 @@ use Rattle.std.specs.Prelude.{◌≡◌, List, []}
 use Rattle.std.specs.List.{flat_map}
 use Rattle.nz_spec.specs.Vectors.{Vector}
 use Rattle.nz_input.specs.Files.{ItemData, FileData}
+use Rattle.nz_input.specs.declared.kind.Goal.{Goal}
 use Rattle.nz_system.specs.Asked.{goals_of}
 use Rattle.nz_system.specs.Rules.{refusals}
 
@@ -10,6 +11,6 @@ use Rattle.nz_system.specs.Rules.{refusals}
 abbrev pub rows_of : List ItemData → List Vector
 rows_of items = flat_map (λ (item : ItemData). item.rows) items
 
--- the file breaks no rule of meaning, where the words of the command line name no goal
-abbrev pub HasMeaning : FileData → Type 0
-HasMeaning file = refusals file (goals_of file []) ≡ []
+-- the file breaks no rule of meaning, where the words of the command line name these goals
+abbrev pub HasMeaning : FileData → List Goal → Type 0
+HasMeaning file goals = refusals file (goals_of file goals) ≡ []

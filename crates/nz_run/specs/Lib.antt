@@ -1,4 +1,3 @@
-pub mod Words
 pub mod FileSystems
 pub mod Built
 pub mod Statuses

@@ -1,9 +1,10 @@
 -- What a run leaves, status by status.
-use Rattle.std.specs.Prelude.{◌≡◌, ◌⊎◌, ℕ, ◌+◌, ◌<◌, ◌≤◌, false, ◌++◌, List, [], length, take, Some, None, Err}
+use Rattle.std.specs.Prelude.{◌≡◌, ◌⊎◌, ℕ, ◌+◌, ◌<◌, ◌≤◌, false, ◌++◌, codes, List, [], length, take, Some, None, Err}
 use Rattle.nz_vec.specs.Texts.{Text}
 use Rattle.nz_spec.specs.Vectors.{Vector}
 use Rattle.nz_spec.specs.Elements.{IsHilbertBasis}
 use Rattle.nz_input.specs.Files.{FileData}
+use Rattle.nz_input.specs.declared.kind.Goal.{Goal}
 use Rattle.nz_input.specs.Texts.{IsTextOf}
 use Rattle.nz_input.specs.Refusals.{IsRefusedAt}
 use Rattle.nz_system.specs.Meaning.{system_of, IsMeaning}
@@ -13,12 +14,16 @@ use Rattle.nz_blocks.specs.Outcomes.{OutcomeData}
 use Rattle.nz_blocks.specs.Output.{text_of}
 use Rattle.nz_edge.specs.Folders.{Files, SameFiles, SameOthers, Stores}
 use Rattle.nz_edge.specs.Counts.{IsQuiet, Rose}
-use Rattle.nz_run.specs.Words.{AreWordsFor, AreRefused, input_name, output_name}
+use Rattle.nz_words.specs.Orders.{OrderData, IsOrder, AreRefused, input_name}
 use Rattle.nz_run.specs.FileSystems.{HasMeaning}
 use Rattle.nz_run.specs.Built.{IsBuilt, IsFirstUnbuilt}
 use Rattle.nz_run.specs.Statuses.{status_line}
 use Rattle.nz_run.specs.declared.status.Status.{Status}
 use Rattle.nz_run.specs.declared.status.Status.TheVariants.{Done, Usage, Absent, ReadFault, TooLong, Grammar, Meaning, NotBuilt, Crowded, WriteFault, NoMemory}
+
+-- the file that is stored
+abbrev pub output_name : Text → Text
+output_name project = project ++ codes ".out"
 
 -- the most bytes of an input
 abbrev pub most : ℕ
@@ -34,12 +39,16 @@ pub record IsInput (project : Text) (files : Files) (input : Text) : Type 0 wher
 abbrev pub IsShort : Text → Type 0
 IsShort input = length input ≤ most
 
--- the input is a text of this file, which breaks no rule of meaning and of which everything is built
-pub record IsReadAs (input : Text) (file : FileData) : Type 0 where
+-- the input is a text of this file, which breaks no rule of meaning and of which everything is built, with these goals of the words
+pub record IsReadAs (goals : List Goal) (input : Text) (file : FileData) : Type 0 where
   pub short : IsShort input
   pub read : IsTextOf input file
-  pub meaning : HasMeaning file
-  pub built : IsBuilt file
+  pub meaning : HasMeaning file goals
+  pub built : IsBuilt file goals
+
+-- the file breaks no rule of meaning and everything of it is built, with some goals of the words
+abbrev pub IsReady : FileData → Type 0
+IsReady file = (goals : List Goal) × HasMeaning file goals × IsBuilt file goals
 
 -- the outcome without a level of which the Hilbert basis alone is wanted
 abbrev pub hilbert_alone : ℕ → List Vector → OutcomeData
@@ -66,69 +75,69 @@ pub record IsAnswered (file : FileData) (output : Text) : Type 0 where
   pub same : output ≡ text_of (hilbert_alone file.amb list)
 
 -- the input is a text of a file, and the output the text of the list of exactly the irreducible elements of the monoid that it defines
-pub record IsSolved (input output : Text) : Type 0 where
+pub record IsSolved (goals : List Goal) (input output : Text) : Type 0 where
   pub file : FileData
-  pub read : IsReadAs input file
+  pub read : IsReadAs goals input file
   pub answered : IsAnswered file output
 
--- the file is the cause of the status
-abbrev pub IsCauseIn : FileData → Status → Type 0
-IsCauseIn file (Meaning i r f) = IsMeaning file [] (Err (refusal.Meaning i r f))
-IsCauseIn file (NotBuilt word) = HasMeaning file × IsFirstUnbuilt file word
-IsCauseIn file Crowded = HasMeaning file × IsBuilt file × IsCrowded (system_of file)
-IsCauseIn file status = ⊥
+-- the file is the cause of the status, where the words name these goals
+abbrev pub IsCauseIn : List Goal → FileData → Status → Type 0
+IsCauseIn goals file (Meaning i r f) = IsMeaning file goals (Err (refusal.Meaning i r f))
+IsCauseIn goals file (NotBuilt word) = HasMeaning file goals × IsFirstUnbuilt file goals word
+IsCauseIn goals file Crowded = HasMeaning file goals × IsBuilt file goals × IsCrowded (system_of file)
+IsCauseIn goals file status = ⊥
 
 -- the input is a text of a file that is the cause of the status
-pub record IsReadCause (input : Text) (status : Status) : Type 0 where
+pub record IsReadCause (goals : List Goal) (input : Text) (status : Status) : Type 0 where
   pub file : FileData
   pub short : IsShort input
   pub read : IsTextOf input file
-  pub cause : IsCauseIn file status
+  pub cause : IsCauseIn goals file status
 
 -- the input is the cause of the status
-abbrev pub IsCause : Text → Status → Type 0
-IsCause input TooLong = most < length input
-IsCause input (Grammar l c f) = IsShort input × IsRefusedAt input l c f
-IsCause input (Meaning i r f) = IsReadCause input (Meaning i r f)
-IsCause input (NotBuilt word) = IsReadCause input (NotBuilt word)
-IsCause input Crowded = IsReadCause input Crowded
-IsCause input Done = ⊥
-IsCause input Usage = ⊥
-IsCause input Absent = ⊥
-IsCause input ReadFault = ⊥
-IsCause input WriteFault = ⊥
-IsCause input NoMemory = ⊥
+abbrev pub IsCause : List Goal → Text → Status → Type 0
+IsCause goals input TooLong = most < length input
+IsCause goals input (Grammar l c f) = IsShort input × IsRefusedAt input l c f
+IsCause goals input (Meaning i r f) = IsReadCause goals input (Meaning i r f)
+IsCause goals input (NotBuilt word) = IsReadCause goals input (NotBuilt word)
+IsCause goals input Crowded = IsReadCause goals input Crowded
+IsCause goals input Done = ⊥
+IsCause goals input Usage = ⊥
+IsCause goals input Absent = ⊥
+IsCause goals input ReadFault = ⊥
+IsCause goals input WriteFault = ⊥
+IsCause goals input NoMemory = ⊥
 
 -- the input is the cause of the status, or memory ran out
-abbrev pub IsCauseOrMemory : Text → Status → Type 0
-IsCauseOrMemory input NoMemory = Unit {0}
-IsCauseOrMemory input status = IsCause input status
+abbrev pub IsCauseOrMemory : List Goal → Text → Status → Type 0
+IsCauseOrMemory goals input NoMemory = Unit {0}
+IsCauseOrMemory goals input status = IsCause goals input status
 
 -- the file is the cause of the status, or memory ran out
-abbrev pub IsCauseInOrMemory : FileData → Status → Type 0
-IsCauseInOrMemory file NoMemory = Unit {0}
-IsCauseInOrMemory file status = IsCauseIn file status
+abbrev pub IsCauseInOrMemory : List Goal → FileData → Status → Type 0
+IsCauseInOrMemory goals file NoMemory = Unit {0}
+IsCauseInOrMemory goals file status = IsCauseIn goals file status
 
 -- what the status says of the input and of the files before and after it was solved; the name is that of the output
-abbrev pub Leaves : Text → Text → Status → Files → Files → Type 0
-Leaves name input Done old new = (output : Text) × IsSolved input output × Stores name output old new
-Leaves name input WriteFault old new = (output : Text) × IsSolved input output × SameOthers name old new
-Leaves name input NoMemory old new = SameFiles old new
-Leaves name input status old new = IsCause input status × SameFiles old new
+abbrev pub Leaves : List Goal → Text → Text → Status → Files → Files → Type 0
+Leaves goals name input Done old new = (output : Text) × IsSolved goals input output × Stores name output old new
+Leaves goals name input WriteFault old new = (output : Text) × IsSolved goals input output × SameOthers name old new
+Leaves goals name input NoMemory old new = SameFiles old new
+Leaves goals name input status old new = IsCause goals input status × SameFiles old new
 
--- what the status of a run of the project says of the files; the counts of faults tell whether reading had one
-abbrev pub ExplainsFor : Text → ℕ → ℕ → Status → Files → Files → Type 0
-ExplainsFor project faults faults' Absent old new = (IsQuiet faults faults' → old (input_name project) ≡ None) × SameFiles old new
-ExplainsFor project faults faults' ReadFault old new = SameFiles old new
-ExplainsFor project faults faults' NoMemory old new = SameFiles old new
-ExplainsFor project faults faults' Usage old new = ⊥
-ExplainsFor project faults faults' status old new = (input : Text) × IsInput project old input × Leaves (output_name project) input status old new
+-- what the status of a run of the project with these goals says of the files; the counts of faults tell whether reading had one
+abbrev pub ExplainsFor : Text → List Goal → ℕ → ℕ → Status → Files → Files → Type 0
+ExplainsFor project goals faults faults' Absent old new = (IsQuiet faults faults' → old (input_name project) ≡ None) × SameFiles old new
+ExplainsFor project goals faults faults' ReadFault old new = SameFiles old new
+ExplainsFor project goals faults faults' NoMemory old new = SameFiles old new
+ExplainsFor project goals faults faults' Usage old new = ⊥
+ExplainsFor project goals faults faults' status old new = (input : Text) × IsInput project old input × Leaves goals (output_name project) input status old new
 
 -- what the status of a run says of the words and the files
 abbrev pub Explains : List Text → ℕ → ℕ → Status → Files → Files → Type 0
 Explains words faults faults' Usage old new = AreRefused words × SameFiles old new
 Explains words faults faults' NoMemory old new = SameFiles old new
-Explains words faults faults' status old new = (project : Text) × AreWordsFor project words × ExplainsFor project faults faults' status old new
+Explains words faults faults' status old new = (order : OrderData) × IsOrder words order × ExplainsFor order.project order.goals faults faults' status old new
 
 -- the status is this one, unless memory ran out
 abbrev pub Decided : Status → Status → Type 0

@@ -1,5 +1,5 @@
 //! What the program solves today.
-ghost use Rattle.std.specs.Prelude.{◌≡◌, ◌↔◌, IsTrue, MatchOption};
+ghost use Rattle.std.specs.Prelude.{◌≡◌, ◌↔◌, ◌++◌, IsTrue, MatchOption};
 ghost use Rattle.std.specs.List.{AllByRecursion as Each};
 ghost use Rattle.nz_input.specs.Files.{ItemData};
 ghost use Rattle.nz_run.specs.Built.{IsBuiltItem, IsBuiltGoal, IsBuilt, IsFirstNot, IsFirstUnbuilt};
@@ -71,13 +71,23 @@ fn unbuilt_goal(goals: &Goals) -> Option<Goal>
     None
 }
 
-/// The first word of the file that names what is not built: of its items, and where all are built, of its goals.
-pub fn first_unbuilt(file: &File) -> Option<Keyword>
-    ensures { MatchOption result (IsBuilt file.now) (IsFirstUnbuilt file.now) }
+// The first goal of two lists that is not built.
+fn first_unbuilt_goal(first: &Goals, second: &Goals) -> Option<Goal>
+    ensures { MatchOption result (Each IsBuiltGoal (first.now ++ second.now)) (IsFirstNot IsBuiltGoal (first.now ++ second.now)) }
+{
+    match unbuilt_goal(first) {
+        Some(goal) => Some(goal),
+        None => unbuilt_goal(second),
+    }
+}
+
+/// The first word that names what is not built: of the items of the file, and where all are built, of its goals and then those of the words.
+pub fn first_unbuilt(file: &File, words: &Goals) -> Option<Keyword>
+    ensures { MatchOption result (IsBuilt file.now words.now) (IsFirstUnbuilt file.now words.now) }
 {
     match unbuilt_item(&file.items) {
         Some(kind) => Some(Keyword::Item(kind)),
-        None => match unbuilt_goal(&file.goals) {
+        None => match first_unbuilt_goal(&file.goals, words) {
             Some(goal) => Some(Keyword::Goal(goal)),
             None => None,
         },

@@ -6,7 +6,7 @@ ghost use Rattle.nz_box.specs.Sides.{IsCrowded};
 ghost use Rattle.nz_blocks.specs.Output.{text_of};
 ghost use Rattle.nz_run.specs.FileSystems.{rows_of, HasMeaning};
 ghost use Rattle.nz_run.specs.Built.{IsBuilt};
-ghost use Rattle.nz_run.specs.Runs.{IsReadAs, IsSolved, IsCauseInOrMemory, IsCauseOrMemory, IsAnswered, Decided};
+ghost use Rattle.nz_run.specs.Runs.{IsReady, IsReadAs, IsSolved, IsCauseInOrMemory, IsCauseOrMemory, IsAnswered, Decided};
 
 use crate::Status;
 use crate::built::first_unbuilt;
@@ -42,8 +42,7 @@ fn all_rows(alloc: Global, items: &Items) -> Result<Rows<i64>, NoMemory>
 
 // The text for a file of which everything is built.
 fn answer(alloc: Global, file: &File) -> Result<Bytes, Status>
-    requires meaning { HasMeaning file.now }
-    requires built { IsBuilt file.now }
+    requires { IsReady file.now }
     ensures ok { IfOk result (IsAnswered file.now) }
     ensures crowded { result ≡ Err Status.Crowded → IsCrowded (system_of file.now) }
     ensures others { IfErr result (λ status. Decided status Status.Crowded) }
@@ -78,26 +77,25 @@ fn answer(alloc: Global, file: &File) -> Result<Bytes, Status>
     }
 }
 
-// The text for a file with a meaning.
-fn meant(alloc: Global, file: &File) -> Result<Bytes, Status>
-    requires { HasMeaning file.now }
-    ensures ok { IfOk result (λ text. IsBuilt file.now × IsAnswered file.now text) }
-    ensures err { IfErr result (IsCauseInOrMemory file.now) }
+// The text for a file with a meaning, where the words name these goals.
+fn meant(alloc: Global, file: &File, goals: &Goals) -> Result<Bytes, Status>
+    requires { HasMeaning file.now goals.now }
+    ensures ok { IfOk result (λ text. IsBuilt file.now goals.now × IsAnswered file.now text) }
+    ensures err { IfErr result (IsCauseInOrMemory goals.now file.now) }
 {
-    match first_unbuilt(file) {
+    match first_unbuilt(file, goals) {
         Some(word) => Err(Status::NotBuilt(word)),
         None => answer(alloc, file),
     }
 }
 
 // The text for a file.
-fn file_solved(alloc: Global, file: &File) -> Result<Bytes, Status>
-    ensures ok { IfOk result (λ text. HasMeaning file.now × IsBuilt file.now × IsAnswered file.now text) }
-    ensures err { IfErr result (IsCauseInOrMemory file.now) }
+fn file_solved(alloc: Global, file: &File, goals: &Goals) -> Result<Bytes, Status>
+    ensures ok { IfOk result (λ text. HasMeaning file.now goals.now × IsBuilt file.now goals.now × IsAnswered file.now text) }
+    ensures err { IfErr result (IsCauseInOrMemory goals.now file.now) }
 {
-    let words = Goals::new(alloc);
-    match system_of(alloc, file, &words) {
-        Ok(_system) => meant(alloc, file),
+    match system_of(alloc, file, goals) {
+        Ok(_system) => meant(alloc, file, goals),
         Err(SystemRefusal::Meaning { item, row, fault }) => {
             Err(Status::Meaning { item, row, fault })
         }
@@ -105,10 +103,10 @@ fn file_solved(alloc: Global, file: &File) -> Result<Bytes, Status>
     }
 }
 
-/// The text to be stored for the input, or the status that ends the run before the store.
-pub fn solved(alloc: Global, input: &[u8]) -> Result<Bytes, Status>
-    ensures ok { IfOk result (IsSolved input.now) }
-    ensures err { IfErr result (IsCauseOrMemory input.now) }
+/// The text to be stored for the input, where the words name these goals, or the status that ends the run before the store.
+pub fn solved(alloc: Global, input: &[u8], goals: &Goals) -> Result<Bytes, Status>
+    ensures ok { IfOk result (IsSolved goals.now input.now) }
+    ensures err { IfErr result (IsCauseOrMemory goals.now input.now) }
 {
     if input.len() > MOST {
         return Err(Status::TooLong);
@@ -128,5 +126,5 @@ pub fn solved(alloc: Global, input: &[u8]) -> Result<Bytes, Status>
         }),
         Err(ReadRefusal::NoMemory) => return Err(Status::NoMemory),
     };
-    file_solved(alloc, &file)
+    file_solved(alloc, &file, goals)
 }

@@ -9,7 +9,7 @@ use nz_system::MeaningFault;
 pub enum Status {
     /// The text of the Hilbert basis is stored.
     Done,
-    /// The words name no project.
+    /// The words order nothing.
     Usage,
     /// There is no input file.
     Absent,
@@ -29,7 +29,7 @@ pub enum Status {
         row: u32,
         fault: MeaningFault,
     },
-    /// The file has an item or a goal that the program does not solve yet.
+    /// The file has an item, or the file or the words a goal, that the program does not solve yet.
     NotBuilt(Keyword),
     /// The box of the vectors with entries from 0 to the least common multiple of the moduli has more than a million vectors.
     Crowded,

@@ -1,15 +1,17 @@
 //! The top call.
 ghost use Rattle.std.specs.Prelude.{◌≡◌, ◌≤◌, ◌++◌, IfOk, string_bytes};
 ghost use Rattle.nz_edge.specs.Folders.{BothTold};
-ghost use Rattle.nz_run.specs.Words.{AreRefused, bytes_of_each};
+ghost use Rattle.nz_words.specs.Parts.{bytes_of_each};
+ghost use Rattle.nz_words.specs.Orders.{AreRefused};
 ghost use Rattle.nz_run.specs.Runs.{Explains, ExplainsFor, Decided, PutsLine, Leaves, CountRose, StoreCount};
 
 use crate::Status;
 use crate::solving::{MOST, solved};
 use crate::status_lines::put_status;
-use crate::words::project_of;
 use nz_edge::{Folder, Load, Sink, Stored, Watch};
+use nz_input::Goals;
 use nz_vec::NoMemory;
+use nz_words::{WordsRefusal, order};
 use std::alloc::Global;
 
 fn file_name(alloc: Global, project: &str, ending: &str) -> Result<String, NoMemory>
@@ -29,16 +31,17 @@ fn file_name(alloc: Global, project: &str, ending: &str) -> Result<String, NoMem
 fn solve_and_store<F: Folder>(
     alloc: Global,
     output_name: &str,
+    goals: &Goals,
     input: &[u8],
     folder: &mut F,
 ) -> Status
-    ensures outcome { BothTold (F.files folder.old) (F.files folder.new) (Leaves output_name.now input.now result) }
+    ensures outcome { BothTold (F.files folder.old) (F.files folder.new) (Leaves goals.now output_name.now input.now result) }
     ensures count { StoreCount result (F.store_faults folder.old) (F.store_faults folder.new) }
     ensures faults { F.faults folder.new ≡ F.faults folder.old }
     ensures misses { F.misses folder.new ≡ F.misses folder.old }
     ensures later { F.store_faults folder.old ≤ F.store_faults folder.new }
 {
-    let text = match solved(alloc, input) {
+    let text = match solved(alloc, input, goals) {
         Ok(text) => text,
         Err(status) => return status,
     };
@@ -49,9 +52,9 @@ fn solve_and_store<F: Folder>(
     }
 }
 
-// The run of a project, up to its status line.
-fn run_project<F: Folder>(alloc: Global, project: &str, folder: &mut F) -> Status
-    ensures outcome { BothTold (F.files folder.old) (F.files folder.new) (ExplainsFor project.now (F.faults folder.old) (F.faults folder.new) result) }
+// The run of a project with these goals of the words, up to its status line.
+fn run_project<F: Folder>(alloc: Global, project: &str, goals: &Goals, folder: &mut F) -> Status
+    ensures outcome { BothTold (F.files folder.old) (F.files folder.new) (ExplainsFor project.now goals.now (F.faults folder.old) (F.faults folder.new) result) }
     ensures count { CountRose result (F.faults folder.old) (F.faults folder.new) (F.misses folder.old) (F.misses folder.new) (F.store_faults folder.old) (F.store_faults folder.new) }
     ensures not_usage { ¬ (result ≡ Status.Usage) }
 {
@@ -67,6 +70,7 @@ fn run_project<F: Folder>(alloc: Global, project: &str, folder: &mut F) -> Statu
         Load::Bytes(input) => solve_and_store(
             alloc,
             output_name.as_str(),
+            goals,
             input.as_slice(),
             folder,
         ),
@@ -83,9 +87,10 @@ fn run_words<F: Folder>(alloc: Global, words: &[String], folder: &mut F) -> Stat
     ensures usage_always { AreRefused (bytes_of_each words.now) → Decided result Status.Usage }
     ensures count { CountRose result (F.faults folder.old) (F.faults folder.new) (F.misses folder.old) (F.misses folder.new) (F.store_faults folder.old) (F.store_faults folder.new) }
 {
-    match project_of(words) {
-        Some(project) => run_project(alloc, project, folder),
-        None => Status::Usage,
+    match order(alloc, words) {
+        Ok(order) => run_project(alloc, order.project.as_str(), &order.goals, folder),
+        Err(WordsRefusal::Usage) => Status::Usage,
+        Err(WordsRefusal::NoMemory) => Status::NoMemory,
     }
 }
 
@@ -103,7 +108,7 @@ pub fn run<F: Folder, S: Sink>(
     // the monoid that the input's file defines, each once, in order. Each refusal has its cause, and leaves every file as it was.
     ensures outcome { BothTold (F.files folder.old) (F.files folder.new) (Explains (bytes_of_each words.now) (F.faults folder.old) (F.faults folder.new) result) }
 
-    // Words that name no project are refused, and no others.
+    // Words that order nothing are refused, and no others.
     ensures usage { result ≡ Status.Usage → AreRefused (bytes_of_each words.now) }
     ensures usage_always { AreRefused (bytes_of_each words.now) → Decided result Status.Usage }
 
