@@ -2,7 +2,7 @@
 ghost use Rattle.std.specs.Prelude.{◌≡◌, ◌∷◌, [], pos, IfOk, length};
 ghost use Rattle.std.specs.List.{AllByRecursion as Each};
 ghost use Rattle.nz_spec.specs.Vectors.{HasWidth};
-ghost use Rattle.nz_blocks.specs.TestAnswers.{three, zero_fails};
+ghost use Rattle.nz_blocks.specs.TestAnswers.{three, zero_fails, odd_three, two_fails};
 
 use crate::{AskedList, Outcome, blocks};
 use nz_member::Reply;
@@ -10,12 +10,14 @@ use nz_vec::{Constraint, PlaceLists, Places, Row, Rows};
 use std::alloc::Global;
 use std::test::Fail;
 
-// The even members of the plane, the cone of 1 3 and 2 1 with all its blocks, and the numbers of at least 1 with what is
-// asked of them.
-const TEXTS: [&[u8]; 3] = [
+// The even members of the plane, the cone of 1 3 and 2 1 with all its blocks, the numbers of at least 1 with what is asked
+// of them, that cone with a grading, and the odd numbers with what is asked of them.
+const TEXTS: [&[u8]; 5] = [
     b"amb_space 2\nhomogeneous\n\n3 Hilbert basis elements:\n0 2\n1 1\n2 0\n",
     b"amb_space 2\nhomogeneous\n\n4 Hilbert basis elements:\n1 1\n1 2\n1 3\n2 1\n\n2 extreme rays:\n1 3\n2 1\n\n2 support hyperplanes:\n-1  2\n 3 -1\n\n0 equations:\n\n2 extreme generators:\n1 3\n2 1\n\n1 simplices:\n1 2\n",
     b"amb_space 1\ninhomogeneous\n\n1 module generators:\n1 1\n\n1 Hilbert basis elements of recession monoid:\n1 0\n\n2 asked vectors:\n3: in 2*h1 m1\n0: out 1 -1 >= 0 gives -1\n",
+    b"amb_space 2\nhomogeneous\n\n4 Hilbert basis elements:\n1 1\n2 1\n1 2\n1 3\n\n2 degree 1 elements:\n1 1\n2 1\n",
+    b"amb_space 1\ninhomogeneous\n\n1 module generators:\n1 1\n\n1 Hilbert basis elements of recession monoid:\n2 0\n\n1 vertices of polyhedron:\n1 1\n\n1 extreme rays of recession cone:\n2 0\n\n2 asked vectors:\n3: in 1*h1 m1\n2: out 1 -1 = 0 mod 2 gives 1\n",
 ];
 
 fn one(alloc: Global, first: i128) -> Result<Row<i128>, Fail>
@@ -182,11 +184,103 @@ fn ray(alloc: Global) -> Result<Outcome, Fail> {
     })
 }
 
+fn graded(alloc: Global) -> Result<Outcome, Fail> {
+    let hilbert = list(alloc, &[[1, 1], [2, 1], [1, 2], [1, 3]])?;
+    let degree_one = list(alloc, &[[1, 1], [2, 1]])?;
+    Ok(Outcome {
+        amb: 2,
+        level: false,
+        modules: None,
+        hilbert: Some(hilbert),
+        degree_one: Some(degree_one),
+        vertices: None,
+        rays: None,
+        support: None,
+        equations: None,
+        generators: None,
+        simplices: None,
+        asked: None,
+    })
+}
+
+fn is_odd_three(alloc: Global) -> Result<(Row<i128>, Reply<i128>), Fail>
+    ensures { IfOk result (λ a. a ≡ odd_three) }
+{
+    let x = match one(alloc, 3) {
+        Ok(x) => x,
+        Err(fail) => return Err(fail),
+    };
+    match one(alloc, 1) {
+        Ok(counts) => Ok((
+            x,
+            Reply::Parts {
+                module: Some(0),
+                counts,
+            },
+        )),
+        Err(fail) => Err(fail),
+    }
+}
+
+fn is_two(alloc: Global) -> Result<(Row<i128>, Reply<i128>), Fail>
+    ensures { IfOk result (λ a. a ≡ two_fails) }
+{
+    let x = match one(alloc, 2) {
+        Ok(x) => x,
+        Err(fail) => return Err(fail),
+    };
+    match two(alloc, 1, -1) {
+        Ok(form) => Ok((x, Reply::Outside(Constraint::Multiple(form, 2)))),
+        Err(fail) => Err(fail),
+    }
+}
+
+fn odd_asked(alloc: Global) -> Result<AskedList, Fail>
+    ensures { IfOk result (λ list. list ≡ odd_three ∷ two_fails ∷ []) }
+{
+    let three = match is_odd_three(alloc) {
+        Ok(three) => three,
+        Err(fail) => return Err(fail),
+    };
+    let two = match is_two(alloc) {
+        Ok(two) => two,
+        Err(fail) => return Err(fail),
+    };
+    let mut list = AskedList::new(alloc);
+    list.push(three).or(Err("no memory"))?;
+    list.push(two).or(Err("no memory"))?;
+    Ok(list)
+}
+
+fn odd(alloc: Global) -> Result<Outcome, Fail> {
+    let modules = list(alloc, &[[1, 1]])?;
+    let hilbert = list(alloc, &[[2, 0]])?;
+    let vertices = list(alloc, &[[1, 1]])?;
+    let rays = list(alloc, &[[2, 0]])?;
+    let asked = odd_asked(alloc)?;
+    Ok(Outcome {
+        amb: 1,
+        level: true,
+        modules: Some(modules),
+        hilbert: Some(hilbert),
+        degree_one: None,
+        vertices: Some(vertices),
+        rays: Some(rays),
+        support: None,
+        equations: None,
+        generators: None,
+        simplices: None,
+        asked: Some(asked),
+    })
+}
+
 fn outcome_of(alloc: Global, number: usize) -> Result<Outcome, Fail> {
     match number {
         0 => even(alloc),
         1 => cone(alloc),
-        _ => ray(alloc),
+        2 => ray(alloc),
+        3 => graded(alloc),
+        _ => odd(alloc),
     }
 }
 
