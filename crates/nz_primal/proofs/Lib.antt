@@ -1,0 +1,13 @@
+mod SumCoordinates
+mod CoverCoordinates
+mod SecondLemmas
+mod DualLemmas
+mod NormalForms
+mod PlacingCoordinates
+mod FaceLemmas
+mod LoopLemmas
+mod KeyLemmas
+mod GeneratorLemmas
+mod CandidateLemmas
+mod ElementLemmas
+mod RunLemmas

@@ -1,0 +1,3 @@
+pub mod Second
+pub mod Lists
+pub mod Parts

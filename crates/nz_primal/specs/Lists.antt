@@ -1,0 +1,62 @@
+-- What the primal run answers: the irreducible elements of the whole vectors at which all rows are at least 0, their extreme generators, and a good cover of these.
+use Rattle.std.specs.Prelude.{◌≡◌, ◌⊎◌, ℕ, List, [], length, pos, false, Contains}
+use Rattle.std.specs.List.{AllByRecursion as Each, AllZip}
+use Rattle.nz_spec.specs.Vectors.{Vector, dot, values_at, HasWidth, IsZero}
+use Rattle.nz_spec.specs.Sums.{IsInBox, IsIndependent}
+use Rattle.nz_spec.specs.Order.{IsLexBefore, IsListOf, MoreThan}
+use Rattle.nz_spec.specs.Monoids.{IsIrreducible, IsExtreme}
+use Rattle.nz_spec.specs.Forms.{AreDualForms}
+use Rattle.nz_spec.specs.Covers.{vectors_at, IsGoodCover}
+use Rattle.nz_spec.specs.Stages.{ArePlacings}
+use Rattle.nz_linear.specs.Cones.{IsInRows}
+use Rattle.nz_vec.specs.declared.answers.Work.{Work}
+use Rattle.nz_vec.specs.declared.answers.Work.TheVariants.{Range, TooMany, Stopped, NoMemory}
+use Rattle.nz_edge.specs.Telling.{Watched, WasTold, HasPassedAll, HasStopped, HasLeft}
+use Rattle.nz_primal.specs.Second.{IsFaceBase, HaveCoordinates}
+
+-- forms on vectors of one width that are all 0 only at 0
+pub record AreSeparating (w : ℕ) (order : List Vector) : Type 0 where
+  pub widths : Each (HasWidth w) order
+  pub only_zero : (x : Vector) → HasWidth w x → Each (λ f. dot f x ≡ pos 0) order → IsZero x
+
+-- at the first form at which they differ, x has the lesser value
+abbrev pub IsBeforeBy : List Vector → Vector → Vector → Type 0
+IsBeforeBy order x y = IsLexBefore (values_at order x) (values_at order y)
+
+-- the extreme generators of the whole vectors at which all rows are at least 0, increasing by the values of the forms
+abbrev pub AreGenerators : ℕ → (rows order extreme : List Vector) → Type 0
+AreGenerators w rows order extreme = IsListOf (IsBeforeBy order) (IsExtreme (IsInRows w rows)) extreme
+
+-- for each simplex the dual forms of its vectors, in the coordinates of a base of the vectors at which the rows are 0 that are 0 at all extreme generators
+pub record AreCoverForms (w : ℕ) (rows extreme : List Vector) (simplices : List (List ℕ)) (forms : List (List Vector)) : Type 0 where
+  pub base : List Vector
+  pub coordinates : List Vector
+  pub is_base : IsFaceBase w rows extreme base
+  pub have : HaveCoordinates w base coordinates extreme
+  pub dual : AllZip (λ places fs. AreDualForms (length base) (vectors_at coordinates places) fs) simplices forms
+
+-- exactly the irreducible elements, exactly their extreme generators, and a good cover of these
+pub record ArePrimalLists (w : ℕ) (rows order list extreme : List Vector) (simplices : List (List ℕ)) (forms : List (List Vector)) : Type 0 where
+  pub elements : IsListOf IsLexBefore (IsIrreducible (IsInRows w rows)) list
+  pub generators : AreGenerators w rows order extreme
+  pub cover : IsGoodCover w (IsInRows w rows) extreme simplices
+  pub cover_forms : AreCoverForms w rows extreme simplices forms
+
+-- a member that is a sum of independent vectors of the list with rational factors of at least 0 and below 1
+pub record IsBoxMember (w : ℕ) (Member : Vector → Type 0) (X : List Vector) (x : Vector) : Type 0 where
+  pub member : Member x
+  pub vectors : List Vector
+  pub of_list : Each (Contains X) vectors
+  pub independent : IsIndependent w vectors
+  pub in_box : IsInBox w vectors x
+
+-- a vector of the list, or such a member
+abbrev pub IsHeld : ℕ → (Vector → Type 0) → List Vector → Vector → Type 0
+IsHeld w Member X x = Contains X x ⊎ IsBoxMember w Member X x
+
+-- why there are no lists. Before the extreme generators are placed the watch is told nothing; then its number, and what it was told, go by the stages
+abbrev pub IsPrimalRefusal : ℕ → (rows order : List Vector) → (limit told : ℕ) → (before now : Watched) → Work → Type 0
+IsPrimalRefusal w rows order limit told before now (Range number) = ((number ≡ told) × WasTold before now [] false) ⊎ ((extreme : List Vector) × AreGenerators w rows order extreme × HasLeft (ArePlacings w extreme) told number before now)
+IsPrimalRefusal w rows order limit told before now TooMany = (extreme : List Vector) × AreGenerators w rows order extreme × HasPassedAll (ArePlacings w extreme) told before now × MoreThan limit (IsHeld w (IsInRows w rows) extreme)
+IsPrimalRefusal w rows order limit told before now (Stopped stage) = (extreme : List Vector) × AreGenerators w rows order extreme × HasStopped (ArePlacings w extreme) told stage before now
+IsPrimalRefusal w rows order limit told before now NoMemory = Unit {0}
