@@ -84,3 +84,11 @@ walk_refused limit rays simplices i places (Range told) l q r = tt
 walk_refused limit rays simplices i places TooMany l q r = record { places = places; of_cover = subst (Contains simplices) (sym q) (Contains-get_or simplices i [] l); more = r }
 walk_refused limit rays simplices i places (Stopped stage) l q r = r
 walk_refused limit rays simplices i places NoMemory l q r = tt
+
+pub full_at : (rays : List Vector) (simplices : List (List ℕ)) (forms : List (List Vector)) (i : ℕ) (places : List ℕ) (fs : List Vector) → AreFullSimplices rays simplices forms → i < length simplices → places ≡ get_or simplices i [] → fs ≡ get_or forms i [] → Each (λ p. p < length rays) places × IsFullSimplex (vectors_at rays places) fs
+full_at rays simplices forms i places fs z l e f =
+    let r = zip_at (λ places fs. Each (λ p. p < length rays) places × IsFullSimplex (vectors_at rays places) fs) simplices forms [] [] i z l in
+    subst (λ (ps : List ℕ). Each (λ p. p < length rays) ps × IsFullSimplex (vectors_at rays ps) fs) (sym e) (subst (λ (gs : List Vector). Each (λ p. p < length rays) (get_or simplices i []) × IsFullSimplex (vectors_at rays (get_or simplices i [])) gs) (sym f) r.1)
+
+pub forms_at : (rays : List Vector) (simplices : List (List ℕ)) (forms : List (List Vector)) (i : ℕ) → AreFullSimplices rays simplices forms → i < length simplices → i < length forms
+forms_at rays simplices forms i z l = (zip_at (λ places fs. Each (λ p. p < length rays) places × IsFullSimplex (vectors_at rays places) fs) simplices forms [] [] i z l).0

@@ -4,6 +4,7 @@ use Rattle.std.proofs.lemmas.List.{length-map, length-append}
 use Rattle.std.proofs.lemmas.Int.{ints}
 use Rattle.std.specs.List.{AllByRecursion as Each}
 use Rattle.std.specs.List.Sorted.{IsPermutation}
+use Rattle.std.proofs.lemmas.List.Sorted.{Contains-permutation, IsPermutation-sym}
 use Rattle.nz_spec.specs.Vectors.{Vector, dot, minus, values_at, HasWidth, IsZero}
 use Rattle.nz_spec.specs.Order.{Pairwise, IsLexLess, IsLexBefore, IsListOf}
 use Rattle.nz_spec.proofs.ListLaws.{Each-contains, Each-from_contains, IsLexBefore-asymmetric}
@@ -100,3 +101,13 @@ sorted_by_keys w order xs keys sorted s l d e moved in_order =
       only = each_of_map (drop (length order)) (Contains xs) sorted (each_map (Contains ks) (λ u. Contains xs (drop (length order) u)) sorted (λ u c. let p = image_of (keyed order) xs u c in subst (Contains xs) (sym (drop_key order p.source) ∙ ap (drop (length order)) p.same) p.has) h.only);
       each = λ x c. subst (Contains (map (drop (length order)) sorted)) (drop_key order x) (mapped_has (drop (length order)) sorted (keyed order x) (h.each (keyed order x) (mapped_has (keyed order) xs x c)));
     }
+
+pub sorted_keys_wide : (w n : ℕ) (order xs keys sorted : List Vector) → n ≡ length order → Each (HasWidth w) xs → keys ≡ map (keyed order) xs → IsPermutation keys sorted → Each (λ k. length k ≡ n + w) sorted
+sorted_keys_wide w n order xs keys sorted en l e moved =
+    Each-from_contains (λ k. length k ≡ n + w) sorted (λ k c.
+        let h = Each-contains (λ k. length k ≡ length order + w) (map (keyed order) xs) k (keys_wide w order xs l) (subst (λ (v : List Vector). Contains v k) e (Contains-permutation sorted keys k (IsPermutation-sym keys sorted moved) c)) in
+        h ∙ ap (λ m. m + w) (sym en))
+
+pub sorted_rows : (w n : ℕ) (order xs keys sorted rows : List Vector) → n ≡ length order → AreSeparating w order → Each (HasWidth w) xs → Pairwise ◌≢◌ xs → keys ≡ map (keyed order) xs → IsPermutation keys sorted → IsInOrder None sorted → rows ≡ map (drop n) sorted → IsListOf (IsBeforeBy order) (Contains xs) rows
+sorted_rows w n order xs keys sorted rows en s l d e moved o h =
+    subst (IsListOf (IsBeforeBy order) (Contains xs)) (sym (h ∙ ap (λ m. map (drop m) sorted) en)) (sorted_by_keys w order xs keys sorted s l d e moved o)

@@ -4,7 +4,7 @@ use Rattle.std.proofs.lemmas.List.{length-map, length-append}
 use Rattle.std.proofs.lemmas.List.FromFn.{length-range_with_len}
 use Rattle.std.specs.List.{AllByRecursion as Each, AllZip, range_with_len}
 use Rattle.nz_spec.specs.Vectors.{Vector, dot, combination, HasWidth, IsZero}
-use Rattle.nz_spec.specs.Sums.{IsInCone, IsInBox, HasRank}
+use Rattle.nz_spec.specs.Sums.{IsInCone, IsInBox, IsIndependent, HasRank}
 use Rattle.nz_spec.specs.Order.{Pairwise, IsLexBefore, IsListOf, MoreThan}
 use Rattle.nz_spec.specs.Monoids.{IsIrreducible, IsExtreme}
 use Rattle.nz_spec.specs.Covers.{vectors_at, IsSimplex, IsGoodCover}
@@ -29,7 +29,7 @@ use Rattle.nz_vec.specs.declared.answers.Work.{Work}
 use Rattle.nz_vec.specs.declared.answers.Work.TheVariants.{Range, TooMany, Stopped, NoMemory}
 use Rattle.nz_classes.specs.Classes.{IsPoint}
 use Rattle.nz_cover.specs.Placing.{ArePlaceable, IsInConeOf, IsPlaced, IsPlaceRefusal}
-use Rattle.nz_sweep.specs.Bases.{Base}
+use Rattle.nz_sweep.specs.Bases.{Base, IsBase}
 use Rattle.nz_primal.specs.Lists.{AreGenerators, ArePrimalLists, IsBoxMember, IsHeld, IsPrimalRefusal}
 use Rattle.nz_primal.specs.Second.{IsFaceBase, HaveCoordinates}
 use Rattle.nz_primal.specs.Parts.{IsSettled, IsSecondCone, IsVectorOf, IsPointOf, HasFullSimplex, IsWalkRefusal, IsFirstRefusal, IsLastRefusal, stage_count}
@@ -105,6 +105,9 @@ module _ (w : ℕ) (rows order extreme : List Vector) (base : Base) (coordinates
     cone = second.second_cone w rows extreme pt st.once.extreme base.vectors fb coordinates have;
     full = second.second_rank w rows extreme pt st.once.extreme base.vectors fb coordinates have;
   })
+
+  pub settled_base : IsBase base
+  settled_base = record { widths = subst (λ (n : ℕ). Each (HasWidth n) base.vectors) (sym st.in_second.width) fb.widths; independent = subst (λ (n : ℕ). IsIndependent n base.vectors) (sym st.in_second.width) fb.independent }
 
   pub settled_placeable : ArePlaceable (length base.vectors) coordinates
   settled_placeable = record { widths = have.widths; full = settled_cone.full }
@@ -194,6 +197,23 @@ module _ (w : ℕ) (rows order extreme : List Vector) (base : Base) (coordinates
   walk_refused limit told a b simplices forms TooMany result p h k i = subst (IsPrimalRefusal w rows order limit told a b) (sym i) (extreme, st.generators, all_told told a b h, more_held limit simplices p.cover.simplices k)
   walk_refused limit told a b simplices forms (Stopped stage) result p h k i = absurd k
   walk_refused limit told a b simplices forms NoMemory result p h k i = subst (IsPrimalRefusal w rows order limit told a b) (sym i) tt
+
+  -- ---- the same where the number of base vectors is called n
+  pub placeable_at : (n : ℕ) → n ≡ length base.vectors → ArePlaceable n coordinates
+  placeable_at n e = subst (λ (m : ℕ). ArePlaceable m coordinates) (sym e) settled_placeable
+
+  pub place_refused_at : (n : ℕ) → n ≡ length base.vectors → (h : ℤ) (limit told : ℕ) (a b : Watched) (e : Work) → IsPlaceRefusal h n coordinates told a b e → IsPrimalRefusal w rows order limit told a b e
+  place_refused_at n en h limit told a b e k = place_refused h limit told a b e (subst (λ (m : ℕ). IsPlaceRefusal h m coordinates told a b e) en k)
+
+  pub found_at : (n : ℕ) → n ≡ length base.vectors → (told : ℕ) (a b : Watched) (list : List Vector) (simplices : List (List ℕ)) (forms : List (List Vector)) → IsPlaced n coordinates simplices forms × HasPassedAll (ArePlacings n coordinates) told a b → IsListOf IsLexBefore (IsVectorOf base (IsIrreducible (IsInRows (length base.vectors) second_rows))) list → ArePrimalLists w rows order list extreme simplices forms × HasPassedAll (ArePlacings w extreme) told a b
+  found_at n en told a b list simplices forms k h = (
+    lists_found list simplices forms (subst (λ (m : ℕ). IsPlaced m coordinates simplices forms) en k.0) h,
+    all_told told a b (subst (λ (m : ℕ). HasPassedAll (ArePlacings m coordinates) told a b) en k.1),
+  )
+
+  pub walk_refused_at : (n : ℕ) → n ≡ length base.vectors → (limit told : ℕ) (a b : Watched) (simplices : List (List ℕ)) (forms : List (List Vector)) (e result : Work) (count : ℕ) → IsPlaced n coordinates simplices forms × HasPassedAll (ArePlacings n coordinates) told a b → IsWalkRefusal limit coordinates simplices e → count ≡ stage_count (length base.vectors) (length coordinates) → IsLastRefusal e told count result → IsPrimalRefusal w rows order limit told a b result
+  walk_refused_at n en limit told a b simplices forms e result count k h ec i =
+      walk_refused limit told a b simplices forms e result (subst (λ (m : ℕ). IsPlaced m coordinates simplices forms) en k.0) (subst (λ (m : ℕ). HasPassedAll (ArePlacings m coordinates) told a b) en k.1) h (subst (λ (m : ℕ). IsLastRefusal e told m result) ec i)
 
 -- before the first stage
 pub first_refused : (w : ℕ) (rows order : List Vector) (limit told : ℕ) (a : Watched) (e : Num) (result : Work) → IsFirstRefusal e told result → IsPrimalRefusal w rows order limit told a a result
