@@ -1,0 +1,99 @@
+// The candidates that a cover gives: its rays, and the points of its simplices.
+ghost use Rattle.std.specs.Prelude.{◌≡◌, ◌<◌, ◌++◌, length, get_or, IfOk, MatchResult};
+ghost use Rattle.std.specs.List.{AllByRecursion as Each};
+ghost use Rattle.nz_spec.specs.Covers.{vectors_at};
+ghost use Rattle.nz_classes.specs.Classes.{IsPoint};
+ghost use Rattle.nz_classes.specs.Walks.{IsFullSimplex};
+ghost use Rattle.nz_primal.specs.Parts.{AreFullSimplices, AreCandidates, ArePointsOf, IsWalkRefusal, IsOneWalkRefusal};
+
+use crate::generators::copied;
+use nz_classes::walk;
+use nz_cover::Cover;
+use nz_vec::{NoMemory, Places, Rows, Scalar, Work};
+use std::alloc::Global;
+
+/// The rays, and for each simplex of the cover the whole vectors of its half-open parallelepiped.
+pub(crate) fn candidates<T: Scalar>(
+    alloc: Global,
+    rays: &Rows<T>,
+    cover: &Cover<T>,
+    limit: u32,
+) -> Result<Rows<T>, Work>
+    requires { AreFullSimplices rays.now cover.now.simplices cover.now.forms }
+    ensures { MatchResult result (AreCandidates rays.now cover.now.simplices) (IsWalkRefusal limit rays.now cover.now.simplices) }
+{
+    let mut list = match copied(alloc, rays) {
+        Ok(list) => list,
+        Err(refusal) => return Err(Work::from(refusal)),
+    };
+    for place in 0..cover.simplices.len() {
+        let (places, forms) = (cover.simplices.at(place), cover.forms.at(place));
+        let points = match walked(alloc, rays, places, forms, limit) {
+            Ok(points) => points,
+            Err(refusal) => return Err(refusal),
+        };
+        list = match joined(list, &points) {
+            Ok(list) => list,
+            Err(refusal) => return Err(Work::from(refusal)),
+        };
+    }
+    Ok(list)
+}
+
+// The points of the simplex at these places.
+fn walked<T: Scalar>(
+    alloc: Global,
+    rays: &Rows<T>,
+    places: &Places,
+    forms: &Rows<T>,
+    limit: u32,
+) -> Result<Rows<T>, Work>
+    requires within { Each (λ p. p < length rays.now) places.now }
+    requires full { IsFullSimplex (vectors_at rays.now places.now) forms.now }
+    ensures { MatchResult result (ArePointsOf rays.now places.now) (IsOneWalkRefusal limit rays.now places.now) }
+{
+    let sides = match rows_at(alloc, rays, places) {
+        Ok(sides) => sides,
+        Err(refusal) => return Err(Work::from(refusal)),
+    };
+    match walk(alloc, &sides, forms, limit) {
+        Ok(points) => Ok(points),
+        Err(refusal) => Err(refusal),
+    }
+}
+
+// The rows at these places.
+fn rows_at<T: Scalar>(alloc: Global, rows: &Rows<T>, places: &Places) -> Result<Rows<T>, NoMemory>
+    requires { Each (λ p. p < length rows.now) places.now }
+    ensures { IfOk result (λ r. r ≡ vectors_at rows.now places.now) }
+{
+    let mut list = Rows::new(alloc);
+    for index in 0..places.len() {
+        let row = match rows.at(places.at(index)).try_copy() {
+            Ok(row) => row,
+            Err(refusal) => return Err(refusal),
+        };
+        match list.push(row) {
+            Ok(()) => {}
+            Err(refusal) => return Err(refusal),
+        }
+    }
+    Ok(list)
+}
+
+// The rows of the list, and then the others.
+fn joined<T: Scalar>(mut list: Rows<T>, others: &Rows<T>) -> Result<Rows<T>, NoMemory>
+    ensures { IfOk result (λ r. r ≡ list ++ others.now) }
+{
+    for place in 0..others.len() {
+        let row = match others.at(place).try_copy() {
+            Ok(row) => row,
+            Err(refusal) => return Err(refusal),
+        };
+        match list.push(row) {
+            Ok(()) => {}
+            Err(refusal) => return Err(refusal),
+        }
+    }
+    Ok(list)
+}

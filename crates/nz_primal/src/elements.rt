@@ -1,0 +1,103 @@
+// The irreducible elements, from a cover in second coordinates.
+ghost use Rattle.std.specs.Prelude.{◌≡◌, None, ℕ, ℤ, List, map, length, IfOk, MatchResult};
+ghost use Rattle.std.specs.List.{AllByRecursion as Each};
+ghost use Rattle.std.specs.List.Sorted.{IsPermutation};
+ghost use Rattle.nz_spec.specs.Vectors.{HasWidth, combination};
+ghost use Rattle.nz_spec.specs.Order.{IsLexBefore, IsListOf};
+ghost use Rattle.nz_spec.specs.Monoids.{IsIrreducible};
+
+ghost use Rattle.nz_linear.specs.Cones.{IsInRows};
+ghost use Rattle.nz_degree.specs.Degrees.{IsInOrder};
+ghost use Rattle.nz_sweep.specs.Bases.{IsBase};
+ghost use Rattle.nz_cover.specs.Placing.{IsPlaced};
+ghost use Rattle.nz_primal.specs.Parts.{IsSecondCone, IsVectorOf, IsWalkRefusal};
+
+use crate::candidates::candidates;
+use crate::second::Second;
+use nz_cover::Cover;
+use nz_degree::sort;
+use nz_reducer::irreducibles;
+use nz_sweep::Basis;
+use crate::keys::ungraded;
+use nz_vec::{Num, Rows, Scalar, Work};
+use std::alloc::Global;
+
+/// The vectors whose coordinates are the irreducible elements in second coordinates, lexicographically
+/// and each once.
+pub(crate) fn elements<T: Scalar>(
+    alloc: Global,
+    second: &Second<T>,
+    cover: &Cover<T>,
+    limit: u32,
+) -> Result<Rows<T>, Work>
+    requires base { IsBase second.now.base }
+    requires cone { IsSecondCone (length second.now.base.vectors) second.now.rows second.now.rays }
+    requires placed { IsPlaced (length second.now.base.vectors) second.now.rays cover.now.simplices cover.now.forms }
+    ensures { MatchResult result (IsListOf IsLexBefore (IsVectorOf second.now.base (IsIrreducible (IsInRows (length second.now.base.vectors) second.now.rows)))) (IsWalkRefusal limit second.now.rays cover.now.simplices) }
+{
+    let list = match candidates(alloc, &second.rays, cover, limit) {
+        Ok(list) => list,
+        Err(refusal) => return Err(refusal),
+    };
+    let kept = match irreducibles(alloc, &list, &second.rows) {
+        Ok(kept) => kept,
+        Err(refusal) => return Err(walk_refusal(refusal)),
+    };
+    match brought_back(alloc, &second.base, &kept) {
+        Ok(list) => Ok(list),
+        Err(refusal) => Err(walk_refusal(refusal)),
+    }
+}
+
+// A refusal of one reckoning as that of the walks.
+fn walk_refusal(refusal: Num) -> Work
+    ensures { (limit : ℕ) (rays : List (List ℤ)) (simplices : List (List ℕ)) → IsWalkRefusal limit rays simplices result }
+{
+    match refusal {
+        Num::Range => Work::Range { told: 0 },
+        Num::NoMemory => Work::NoMemory,
+    }
+}
+
+// The vectors with these coordinates, lexicographically.
+fn brought_back<T: Scalar>(
+    alloc: Global,
+    base: &Basis<T>,
+    coordinates: &Rows<T>,
+) -> Result<Rows<T>, Num>
+    requires widths { Each (HasWidth (length base.now.vectors)) coordinates.now }
+    ensures same { IfOk result (IsPermutation (map (λ c. combination base.now.width c base.now.vectors) coordinates.now)) }
+    ensures order { IfOk result (IsInOrder None) }
+{
+    let mut list = match vectors(alloc, base, coordinates) {
+        Ok(list) => list,
+        Err(refusal) => return Err(refusal),
+    };
+    match sort(alloc, &mut list, ungraded(coordinates)) {
+        Ok(()) => Ok(list),
+        Err(refusal) => Err(refusal),
+    }
+}
+
+// The vectors with these coordinates.
+fn vectors<T: Scalar>(
+    alloc: Global,
+    base: &Basis<T>,
+    coordinates: &Rows<T>,
+) -> Result<Rows<T>, Num>
+    requires { Each (HasWidth (length base.now.vectors)) coordinates.now }
+    ensures { IfOk result (λ r. r ≡ map (λ c. combination base.now.width c base.now.vectors) coordinates.now) }
+{
+    let mut list = Rows::new(alloc);
+    for place in 0..coordinates.len() {
+        let vector = match base.vector(alloc, coordinates.at(place)) {
+            Ok(vector) => vector,
+            Err(refusal) => return Err(refusal),
+        };
+        match list.push(vector) {
+            Ok(()) => {}
+            Err(refusal) => return Err(Num::from(refusal)),
+        }
+    }
+    Ok(list)
+}
