@@ -1,12 +1,13 @@
-//! The program: `nmz PROJECT` reads `PROJECT.in`, stores `PROJECT.out` and prints a status line.
+//! The program: `nmz [options] PROJECT` reads `PROJECT.in`, stores `PROJECT.out` and prints a status line.
 //! It has no contract of its own: it hands the words and the outside to `nz_run::run`, whose contract is the product's.
-//! Below it stand `nz_run`, for the run, and `nz_edge`, for the disk and standard output.
+//! Below it stand `nz_run`, for the run, `nz_words`, for the choice of the watch, and `nz_edge`, for the disk and the terminal.
 //! People use it, from a shell.
 //! There is nothing to read before `main`; then go on with `run`.
 #![tactic(auto)]
 
-use nz_edge::{DiskFolder, QuietWatch, StdSink, Watch};
+use nz_edge::{DiskFolder, LinesWatch, QuietWatch, StdSink, StopWatch, Watch};
 use nz_run::{Status, run};
+use nz_words::watch_choice;
 use std::io::ErrorKind;
 use std::process::ExitCode;
 use std::{env, io};
@@ -20,30 +21,68 @@ fn words_of(rt: &HostRuntime) -> io::Result<Vec<String>> {
     Ok(words)
 }
 
+fn no_memory() -> ExitCode {
+    ExitCode::from(Status::NoMemory.code())
+}
+
+fn run_told(rt: HostRuntime, words: &[String], watch: &mut Box<dyn Watch>) -> ExitCode {
+    let mut folder = DiskFolder::new(rt);
+    let mut console = StdSink::new(rt);
+    let status = run(rt.alloc(), words, &mut folder, &mut console, watch);
+    ExitCode::from(status.code())
+}
+
+// A run that prints nothing of its stages.
+fn run_quietly(rt: HostRuntime, words: &[String]) -> ExitCode {
+    let mut watch: Box<dyn Watch> = match Box::new(rt.alloc(), QuietWatch::new()) {
+        Ok(watch) => watch,
+        Err(_) => return no_memory(),
+    };
+    run_told(rt, words, &mut watch)
+}
+
+// A run that prints its stages.
+fn run_printing(rt: HostRuntime, words: &[String]) -> ExitCode {
+    let mut watch: Box<dyn Watch> = match Box::new(rt.alloc(), LinesWatch::new(rt)) {
+        Ok(watch) => watch,
+        Err(_) => return no_memory(),
+    };
+    run_told(rt, words, &mut watch)
+}
+
+// A run that stops after so many stages.
+fn run_stopping(rt: HostRuntime, words: &[String], left: u64, lines: bool) -> ExitCode {
+    let mut watch: Box<dyn Watch> = match Box::new(rt.alloc(), StopWatch::new(rt, left, lines)) {
+        Ok(watch) => watch,
+        Err(_) => return no_memory(),
+    };
+    run_told(rt, words, &mut watch)
+}
+
 // Where memory is wanting, nothing is run, since a part of the words would mean another run.
 fn main(rt: HostRuntime) -> ExitCode {
     let words = match words_of(&rt) {
         Ok(words) => words,
         Err(error) => {
             if error.kind() == ErrorKind::OutOfMemory {
-                return ExitCode::from(Status::NoMemory.code());
+                return no_memory();
             }
             // A word is no text. No words are refused in the same way.
             Vec::new(rt.alloc())
         }
     };
-    let mut watch: Box<dyn Watch> = match Box::new(rt.alloc(), QuietWatch::new()) {
-        Ok(watch) => watch,
-        Err(_) => return ExitCode::from(Status::NoMemory.code()),
+    let choice = match watch_choice(rt.alloc(), words.as_slice()) {
+        Ok(choice) => choice,
+        Err(_) => return no_memory(),
     };
-    let mut folder = DiskFolder::new(rt);
-    let mut console = StdSink::new(rt);
-    let status = run(
-        rt.alloc(),
-        words.as_slice(),
-        &mut folder,
-        &mut console,
-        &mut watch,
-    );
-    ExitCode::from(status.code())
+    match choice.stages {
+        Some(left) => run_stopping(rt, words.as_slice(), left, choice.verbose),
+        None => {
+            if choice.verbose {
+                run_printing(rt, words.as_slice())
+            } else {
+                run_quietly(rt, words.as_slice())
+            }
+        }
+    }
 }
