@@ -108,7 +108,7 @@ module _ (w : ℕ) (rows rays : List Vector) (k : IsSecondCone w rows rays) wher
     candidate_listed x i = ⊎_elim
         (λ r. Each-contains (Contains list) rays x c.rays_in r)
         (λ b. let n = simplex_size b.places (Each-contains (IsSimplex w rays) simplices b.places good.simplices b.of_cover) in
-            c.points_in x (b.places, b.of_cover, (b.member.in_lattice ∙ sym n, subst (λ m. IsInBox m (vectors_at rays b.places) x) (sym n) b.in_box)))
+        c.points_in x (b.places, b.of_cover, (b.member.in_lattice ∙ sym n, subst (λ m. IsInBox m (vectors_at rays b.places) x) (sym n) b.in_box)))
         i
 
     members_listed : Each Member list

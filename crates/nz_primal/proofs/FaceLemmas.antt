@@ -114,9 +114,9 @@ pub face_step : (w : ℕ) (rows rays : List Vector) (i : ℕ) (row : Vector) (be
 face_step w rows rays i row before after l e c h = (
   c.width ∙ h.0,
   ⊎_elim
-  (λ z. face_cut w rows rays before.vectors after.vectors i row l e z (subst (λ (n : ℕ). IsCut (λ x. dot row x ≡ pos 0) n before.vectors after.vectors) h.0 (c.zero z)) h.1)
-  (λ n. face_other w rows rays after.vectors i row l e n (subst (λ (b : Base). IsFaceBase w (take i rows) rays b.vectors) (sym (c.other n)) h.1))
-  (vanishes_or_not rays row),
+      (λ z. face_cut w rows rays before.vectors after.vectors i row l e z (subst (λ (n : ℕ). IsCut (λ x. dot row x ≡ pos 0) n before.vectors after.vectors) h.0 (c.zero z)) h.1)
+      (λ n. face_other w rows rays after.vectors i row l e n (subst (λ (b : Base). IsFaceBase w (take i rows) rays b.vectors) (sym (c.other n)) h.1))
+      (vanishes_or_not rays row),
 )
 
 pub coordinates_start : (w : ℕ) (base list vectors : List Vector) → list ≡ [] → HaveCoordinates w base list (take 0 vectors)

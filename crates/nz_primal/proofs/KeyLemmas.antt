@@ -89,14 +89,14 @@ sorted_by_keys w order xs keys sorted s l d e moved in_order =
     record {
       in_order = pairwise_mapped IsLexBefore (IsBeforeBy order) (Contains ks) (drop (length order))
           (λ u v cu cv b.
-              let p = image_of (keyed order) xs u cu in
-              let q = image_of (keyed order) xs v cv in
-              let x = p.source in
-              let y = q.source in
-              let lx = Each-contains (HasWidth w) xs x l p.has in
-              let ly = Each-contains (HasWidth w) xs y l q.has in
-              let b' : IsLexBefore (keyed order x) (keyed order y) = subst (λ z. IsLexBefore z (keyed order y)) (sym p.same) (subst (IsLexBefore u) (sym q.same) b) in
-              subst (λ z. IsBeforeBy order z (drop (length order) v)) (sym (drop_key order x) ∙ ap (drop (length order)) p.same) (subst (IsBeforeBy order x) (sym (drop_key order y) ∙ ap (drop (length order)) q.same) (before_of_keys w order x y s lx ly b')))
+          let p = image_of (keyed order) xs u cu in
+          let q = image_of (keyed order) xs v cv in
+          let x = p.source in
+          let y = q.source in
+          let lx = Each-contains (HasWidth w) xs x l p.has in
+          let ly = Each-contains (HasWidth w) xs y l q.has in
+          let b' : IsLexBefore (keyed order x) (keyed order y) = subst (λ z. IsLexBefore z (keyed order y)) (sym p.same) (subst (IsLexBefore u) (sym q.same) b) in
+          subst (λ z. IsBeforeBy order z (drop (length order) v)) (sym (drop_key order x) ∙ ap (drop (length order)) p.same) (subst (IsBeforeBy order x) (sym (drop_key order y) ∙ ap (drop (length order)) q.same) (before_of_keys w order x y s lx ly b')))
           sorted h.only h.in_order;
       only = each_of_map (drop (length order)) (Contains xs) sorted (each_map (Contains ks) (λ u. Contains xs (drop (length order) u)) sorted (λ u c. let p = image_of (keyed order) xs u c in subst (Contains xs) (sym (drop_key order p.source) ∙ ap (drop (length order)) p.same) p.has) h.only);
       each = λ x c. subst (Contains (map (drop (length order)) sorted)) (drop_key order x) (mapped_has (drop (length order)) sorted (keyed order x) (h.each (keyed order x) (mapped_has (keyed order) xs x c)));
@@ -105,8 +105,8 @@ sorted_by_keys w order xs keys sorted s l d e moved in_order =
 pub sorted_keys_wide : (w n : ℕ) (order xs keys sorted : List Vector) → n ≡ length order → Each (HasWidth w) xs → keys ≡ map (keyed order) xs → IsPermutation keys sorted → Each (λ k. length k ≡ n + w) sorted
 sorted_keys_wide w n order xs keys sorted en l e moved =
     Each-from_contains (λ k. length k ≡ n + w) sorted (λ k c.
-        let h = Each-contains (λ k. length k ≡ length order + w) (map (keyed order) xs) k (keys_wide w order xs l) (subst (λ (v : List Vector). Contains v k) e (Contains-permutation sorted keys k (IsPermutation-sym keys sorted moved) c)) in
-        h ∙ ap (λ m. m + w) (sym en))
+    let h = Each-contains (λ k. length k ≡ length order + w) (map (keyed order) xs) k (keys_wide w order xs l) (subst (λ (v : List Vector). Contains v k) e (Contains-permutation sorted keys k (IsPermutation-sym keys sorted moved) c)) in
+    h ∙ ap (λ m. m + w) (sym en))
 
 pub sorted_rows : (w n : ℕ) (order xs keys sorted rows : List Vector) → n ≡ length order → AreSeparating w order → Each (HasWidth w) xs → Pairwise ◌≢◌ xs → keys ≡ map (keyed order) xs → IsPermutation keys sorted → IsInOrder None sorted → rows ≡ map (drop n) sorted → IsListOf (IsBeforeBy order) (Contains xs) rows
 sorted_rows w n order xs keys sorted rows en s l d e moved o h =

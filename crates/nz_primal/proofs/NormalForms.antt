@@ -150,24 +150,26 @@ normal_of w H f l lf not_all =
     let pD = product_positive s.chosen dual in
     let d = difference (pos 1) x D f in
     let on_rows : Each (λ h. dot d h ≡ pos 0) (map (λ (p : Pair). p.form) s.chosen) =
-        each_of_map (λ (p : Pair). p.form) (λ h. dot d h ≡ pos 0) s.chosen
-        (each_map (λ (p : Pair). dot p.form x ≡ D *ℤ dot p.form f) (λ (p : Pair). dot d p.form ≡ pos 0) s.chosen
-        (λ p e. difference_value w (pos 1) x D f p.form lx lf ∙ less_more D (dot x p.form) (dot f p.form) (dot_comm x p.form ∙ e ∙ ap (λ z. D *ℤ z) (dot_comm p.form f))) at_chosen) in
+    each_of_map (λ (p : Pair). p.form) (λ h. dot d h ≡ pos 0) s.chosen
+    (each_map (λ (p : Pair). dot p.form x ≡ D *ℤ dot p.form f) (λ (p : Pair). dot d p.form ≡ pos 0) s.chosen
+    (λ p e. difference_value w (pos 1) x D f p.form lx lf ∙ less_more D (dot x p.form) (dot f p.form) (dot_comm x p.form ∙ e ∙ ap (λ z. D *ℤ z) (dot_comm p.form f))) at_chosen) in
     let lrows : Each (HasWidth w) (map (λ (p : Pair). p.form) s.chosen) = each_of_map (λ (p : Pair). p.form) (HasWidth w) s.chosen (each_map (HasWidths w) (λ (p : Pair). HasWidth w p.form) s.chosen (λ p k. k.form_width) wide) in
     let same : Each (λ h. dot x h ≡ D *ℤ dot f h) H = Each-from_contains (λ h. dot x h ≡ D *ℤ dot f h) H
-        (λ h c. less_gone D (dot x h) (dot f h) (sym (difference_value w (pos 1) x D f h lx lf) ∙ zero_on_span d w (map (λ (p : Pair). p.form) s.chosen) h lrows on_rows (in_chosen_span w H s.chosen s.free h (Each-contains (HasWidth w) H h l c) s.state (seen_vanish w H s.chosen s.free h s.state c)))) in
+    (λ h c. less_gone D (dot x h) (dot f h) (sym (difference_value w (pos 1) x D f h lx lf) ∙ zero_on_span d w (map (λ (p : Pair). p.form) s.chosen) h lrows on_rows (in_chosen_span w H s.chosen s.free h (Each-contains (HasWidth w) H h l c) s.state (seen_vanish w H s.chosen s.free h s.state c)))) in
     let r = primitive_of x (λ z. not_all (each_map (λ h. dot x h ≡ D *ℤ dot f h) (λ h. dot f h ≡ pos 0) H (λ h e. mul_is_zero D (dot f h) pD (sym e ∙ dot_comm x h ∙ dot-IsZero h x z)) same)) in
     let k = r.is in
     let lg : HasWidth w r.y = sym (length-scaled (length r.y) k.factor r.y refl) ∙ ap length k.same ∙ lx in
     let zeros = zero_at_columns w s.columns s.free x lx s.are_columns.each (Each-from_contains (λ (p : Pair). dot p.form x ≡ pos 0) s.free (λ p c. vanishes_at_spread w s.chosen p.form f wide (apart_from_left p s.chosen s.free s.state.pair.dual c))) in
-    let list = columns_are_other w H s.columns s.chosen s.free l s.state s.are_columns in
-    (r.y, record {
-      width = lg;
-      primitive = k.primitive;
-      zero_at = λ j o. mul_is_zero k.factor (entry r.y j) k.positive (primitive_entry w x r.y j k lg ∙ Each-contains (λ c. entry x c ≡ pos 0) s.columns j zeros (list.each j o));
-      a = k.factor;
-      b = D;
-      positive_a = k.positive;
-      positive_b = pD;
-      values = each_map (λ h. dot x h ≡ D *ℤ dot f h) (λ h. k.factor *ℤ dot r.y h ≡ D *ℤ dot f h) H (λ h e. sym (scaled-dot k.factor r.y h) ∙ ap (λ v. dot v h) k.same ∙ e) same;
-    })
+    let list = columns_are_other w H s.columns s.chosen s.free l s.state s.are_columns in (
+      r.y,
+      record {
+        width = lg;
+        primitive = k.primitive;
+        zero_at = λ j o. mul_is_zero k.factor (entry r.y j) k.positive (primitive_entry w x r.y j k lg ∙ Each-contains (λ c. entry x c ≡ pos 0) s.columns j zeros (list.each j o));
+        a = k.factor;
+        b = D;
+        positive_a = k.positive;
+        positive_b = pD;
+        values = each_map (λ h. dot x h ≡ D *ℤ dot f h) (λ h. k.factor *ℤ dot r.y h ≡ D *ℤ dot f h) H (λ h e. sym (scaled-dot k.factor r.y h) ∙ ap (λ v. dot v h) k.same ∙ e) same;
+      },
+    )

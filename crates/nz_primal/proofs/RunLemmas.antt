@@ -120,7 +120,7 @@ module _ (w : ℕ) (rows order extreme : List Vector) (base : Base) (coordinates
       IsListOf-where IsLexBefore (IsVectorOf base (IsIrreducible (IsInRows (length base.vectors) second_rows))) (IsIrreducible (IsInRows w rows))
       (λ x v. subst (IsIrreducible (IsInRows w rows)) (ap (λ n. combination n v.0 base.vectors) (sym st.in_second.width) ∙ v.2) (irreducible_forth w base.vectors (IsInRows w rows) (IsInRows (length base.vectors) second_rows) there v.0 v.1))
       (λ x i. let b = there.back x i.member in
-          (b.0, irreducible_back w base.vectors (IsInRows w rows) (IsInRows (length base.vectors) second_rows) there b.0 (there.one_each b.0 b.1) (subst (IsIrreducible (IsInRows w rows)) (sym b.2) i), ap (λ n. combination n b.0 base.vectors) st.in_second.width ∙ b.2))
+      (b.0, irreducible_back w base.vectors (IsInRows w rows) (IsInRows (length base.vectors) second_rows) there b.0 (there.one_each b.0 b.1) (subst (IsIrreducible (IsInRows w rows)) (sym b.2) i), ap (λ n. combination n b.0 base.vectors) st.in_second.width ∙ b.2))
       list h
 
   cover_back : (simplices : List (List ℕ)) → IsGoodCover (length base.vectors) (IsInConeOf (length base.vectors) coordinates) coordinates simplices → IsGoodCover w (IsInRows w rows) extreme simplices
@@ -168,14 +168,16 @@ module _ (w : ℕ) (rows order extreme : List Vector) (base : Base) (coordinates
       let lv = vectors_wide (length base.vectors) coordinates places have.widths s.within in
       let lc : HasWidth (length base.vectors) c = p.0 ∙ n in
       let box : IsInBox (length base.vectors) vs c = subst (λ m. IsInBox m vs c) n p.1 in
-      let m : IsInRows (length base.vectors) second_rows c = (settled_cone.cone c lc).0 (cone_of_members (length base.vectors) vs coordinates c have.widths (vectors_listed coordinates places s.within) (IsInCone-box (length base.vectors) vs c box)) in
-      (lc, inr (record {
-        member = there.forth c m;
-        vectors = map at vs;
-        of_list = subst (λ (us : List Vector). Each (Contains us) (map at vs)) have.same (each_of_map at (Contains (map at coordinates)) vs (each_map (Contains coordinates) (λ v. Contains (map at coordinates) (at v)) vs (λ v k. sum.mapped_has at coordinates v k) (vectors_listed coordinates places s.within)));
-        independent = sum.independent_forth w base.vectors fb.widths fb.independent vs lv s.independent;
-        in_box = sum.sum_forth w base.vectors fb.widths fb.independent (λ k f. (pos 0 ≤ℤ f) × (f <ℤ k)) vs c lv box;
-      }))
+      let m : IsInRows (length base.vectors) second_rows c = (settled_cone.cone c lc).0 (cone_of_members (length base.vectors) vs coordinates c have.widths (vectors_listed coordinates places s.within) (IsInCone-box (length base.vectors) vs c box)) in (
+        lc,
+        inr (record {
+          member = there.forth c m;
+          vectors = map at vs;
+          of_list = subst (λ (us : List Vector). Each (Contains us) (map at vs)) have.same (each_of_map at (Contains (map at coordinates)) vs (each_map (Contains coordinates) (λ v. Contains (map at coordinates) (at v)) vs (λ v k. sum.mapped_has at coordinates v k) (vectors_listed coordinates places s.within)));
+          independent = sum.independent_forth w base.vectors fb.widths fb.independent vs lv s.independent;
+          in_box = sum.sum_forth w base.vectors fb.widths fb.independent (λ k f. (pos 0 ≤ℤ f) × (f <ℤ k)) vs c lv box;
+        }),
+      )
 
   more_held : (limit : ℕ) (simplices : List (List ℕ)) → Each (IsSimplex (length base.vectors) coordinates) simplices → HasFullSimplex limit coordinates simplices → MoreThan limit (IsHeld w (IsInRows w rows) extreme)
   more_held limit simplices g h =
@@ -189,11 +191,15 @@ module _ (w : ℕ) (rows order extreme : List Vector) (base : Base) (coordinates
       }
 
   pub walk_refused : (limit told : ℕ) (a b : Watched) (simplices : List (List ℕ)) (forms : List (List Vector)) (e result : Work) → IsPlaced (length base.vectors) coordinates simplices forms → HasPassedAll (ArePlacings (length base.vectors) coordinates) told a b → IsWalkRefusal limit coordinates simplices e → IsLastRefusal e told (stage_count (length base.vectors) (length coordinates)) result → IsPrimalRefusal w rows order limit told a b result
-  walk_refused limit told a b simplices forms (Range number) result p h k i = subst (IsPrimalRefusal w rows order limit told a b) (sym i) (inr (extreme, st.generators, record {
-    passed = h.passed;
-    telling = passed_where (ArePlacings (length base.vectors) coordinates) (ArePlacings w extreme) placings_back told h.passed a b false h.telling;
-    is_greater = ap (λ n. max told n) (sym (h.all ∙ stages_counted (length base.vectors) coordinates h.telling.stages have.widths settled_cone.full h.telling.are_stages));
-  }))
+  walk_refused limit told a b simplices forms (Range number) result p h k i = subst (IsPrimalRefusal w rows order limit told a b) (sym i) (inr (
+    extreme,
+    st.generators,
+    record {
+      passed = h.passed;
+      telling = passed_where (ArePlacings (length base.vectors) coordinates) (ArePlacings w extreme) placings_back told h.passed a b false h.telling;
+      is_greater = ap (λ n. max told n) (sym (h.all ∙ stages_counted (length base.vectors) coordinates h.telling.stages have.widths settled_cone.full h.telling.are_stages));
+    },
+  ))
   walk_refused limit told a b simplices forms TooMany result p h k i = subst (IsPrimalRefusal w rows order limit told a b) (sym i) (extreme, st.generators, all_told told a b h, more_held limit simplices p.cover.simplices k)
   walk_refused limit told a b simplices forms (Stopped stage) result p h k i = absurd k
   walk_refused limit told a b simplices forms NoMemory result p h k i = subst (IsPrimalRefusal w rows order limit told a b) (sym i) tt

@@ -5,7 +5,6 @@ ghost use Rattle.std.specs.List.Sorted.{IsPermutation};
 ghost use Rattle.nz_spec.specs.Vectors.{HasWidth, combination};
 ghost use Rattle.nz_spec.specs.Order.{IsLexBefore, IsListOf};
 ghost use Rattle.nz_spec.specs.Monoids.{IsIrreducible};
-
 ghost use Rattle.nz_linear.specs.Cones.{IsInRows};
 ghost use Rattle.nz_degree.specs.Degrees.{IsInOrder};
 ghost use Rattle.nz_sweep.specs.Bases.{IsBase};
@@ -13,12 +12,12 @@ ghost use Rattle.nz_cover.specs.Placing.{IsPlaced};
 ghost use Rattle.nz_primal.specs.Parts.{IsSecondCone, IsVectorOf, IsWalkRefusal};
 
 use crate::candidates::candidates;
+use crate::keys::ungraded;
 use crate::second::Second;
 use nz_cover::Cover;
 use nz_degree::sort;
 use nz_reducer::irreducibles;
 use nz_sweep::Basis;
-use crate::keys::ungraded;
 use nz_vec::{Num, Rows, Scalar, Work};
 use std::alloc::Global;
 
@@ -80,11 +79,7 @@ fn brought_back<T: Scalar>(
 }
 
 // The vectors with these coordinates.
-fn vectors<T: Scalar>(
-    alloc: Global,
-    base: &Basis<T>,
-    coordinates: &Rows<T>,
-) -> Result<Rows<T>, Num>
+fn vectors<T: Scalar>(alloc: Global, base: &Basis<T>, coordinates: &Rows<T>) -> Result<Rows<T>, Num>
     requires { Each (HasWidth (length base.now.vectors)) coordinates.now }
     ensures { IfOk result (λ r. r ≡ map (λ c. combination base.now.width c base.now.vectors) coordinates.now) }
 {

@@ -135,11 +135,7 @@ fn all_coordinates<T: Scalar>(
 }
 
 // The coordinates of one.
-fn coordinates_of<T: Scalar>(
-    alloc: Global,
-    base: &Basis<T>,
-    vector: &Row<T>,
-) -> Result<Row<T>, Num>
+fn coordinates_of<T: Scalar>(alloc: Global, base: &Basis<T>, vector: &Row<T>) -> Result<Row<T>, Num>
     requires width { length vector.now ≡ base.now.width }
     requires inside { IsInGroup base.now.width base.now.vectors vector.now }
     ensures { IfOk result (λ c. (length c ≡ length base.now.vectors) × (combination base.now.width c base.now.vectors ≡ vector.now)) }

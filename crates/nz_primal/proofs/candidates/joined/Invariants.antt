@@ -1,5 +1,4 @@
 use Rattle.std.proofs.Common.{◌≡◌, ◌++◌, take}
-
 use Rattle.nz_primal.proofs.candidates.joined.Given as goal
 
 abbrev pub invariant-loop-place : goal.invariant-loop-place

@@ -1,5 +1,4 @@
 use Rattle.std.proofs.Common.{◌≡◌, ◌≤◌, ◌-◌, take, map, drop}
-
 use Rattle.nz_primal.proofs.keys.end_of.Given as goal
 
 abbrev pub invariant-loop-place : goal.invariant-loop-place

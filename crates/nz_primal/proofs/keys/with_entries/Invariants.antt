@@ -1,5 +1,4 @@
 use Rattle.std.proofs.Common.{◌≡◌, ◌++◌, take, map}
-
 use Rattle.nz_primal.proofs.keys.with_entries.Given as goal
 
 abbrev pub invariant-loop-place : goal.invariant-loop-place
