@@ -45,7 +45,7 @@ struct Ran {
 
 fn run_on(
     alloc: Global,
-    word: &str,
+    line: &str,
     input: Option<&[u8]>,
     folder_fails: u64,
     console_fails: u64,
@@ -58,7 +58,9 @@ fn run_on(
     let mut console = MemSink::new(alloc, 100, failing(alloc, console_fails)?)?;
     let mut watch: Box<dyn Watch> = Box::new(alloc, QuietWatch::new())?;
     let mut words = Vec::new(alloc);
-    words.push(String::from_str(alloc, word)?)?;
+    for part in line.split(' ') {
+        words.push(String::from_str(alloc, part)?)?;
+    }
     let status = run(alloc, &words, &mut folder, &mut console, &mut watch);
     Ok(Ran {
         folder,
@@ -116,6 +118,33 @@ fn runs(rt: HostRuntime) -> Result<(), Fail> {
             0,
             b"done\n".as_slice(),
             Some(b"amb_space 1\nhomogeneous\n\n1 Hilbert basis elements:\n18\n".as_slice()),
+        ),
+        (
+            "--HilbertBasis --Limit 8 p.in --Stages=0 --Verbose",
+            Some(FIRST),
+            0,
+            0,
+            0,
+            b"done\n".as_slice(),
+            Some(FIRST_TEXT),
+        ),
+        (
+            "p --ExtremeRays",
+            Some(FIRST),
+            0,
+            0,
+            15,
+            b"not built: ExtremeRays\n".as_slice(),
+            None,
+        ),
+        (
+            "--Deg1Elements p",
+            Some(FIRST),
+            0,
+            0,
+            7,
+            b"item 0 row 0: NoGrading\n".as_slice(),
+            None,
         ),
         (
             "",
