@@ -1,18 +1,16 @@
 -- Words that `clap` takes are read as parts, and it finds the rows of these parts.
-use Rattle.std.proofs.Common.{◌≡◌, ◌⊎◌, inl, inr, ◌∙◌, sym, ap, ap₂, subst, refl, arith, ℕ, zero, suc, List, [], ◌∷◌, ◌++◌, map, Bool, true, false, Option, Some, None, is_some, codes}
-use Rattle.std.specs.Prelude.{fold, slice_get, ◌==◌, min, ◌+◌}
+use Rattle.std.proofs.Common.{◌≡◌, inl, inr, ◌∙◌, sym, ap, ap₂, subst, refl, arith, ℕ, suc, List, [], ◌∷◌, ◌++◌, map, Bool, true, false, Option, Some, None}
+use Rattle.std.specs.Prelude.{fold, slice_get, ◌==◌}
 use Rattle.std.specs.Str.{bytes_eq, chars}
 use Rattle.std.proofs.lemmas.Slice.Eq.{bytes_eq-Decides}
 use Rattle.clap.specs.Lexer.{long_of, short_of}
-use Rattle.clap.specs.Walk.{Row, Rule, Walk, Waiting, option, idle, has_row, settled_rows, walked, walk, arg_by_long, takes_values}
-use Rattle.clap.specs.Faults.{settle_fault, turn_fault, walk_fault, long_fault, flags_fault, repeat_fault}
-use Rattle.clap.specs.Kinds.{Kinds, or_else}
+use Rattle.clap.specs.Walk.{Row, Rule, Walk, option, settled_rows, walked, arg_by_long, takes_values}
+use Rattle.clap.specs.Faults.{settle_fault, turn_fault, walk_fault, long_fault, flags_fault}
 use Rattle.clap.specs.declared.error.kind.ErrorKind.TheVariants as kind
-use Rattle.clap.proofs.OnLiterals.{clap_on_literals}
 use Rattle.nz_vec.specs.Texts.{Text}
-use Rattle.nz_words.specs.Parts.{Flag, Setting, Limit, Stages, Part, Flagged, Valued, Named, flag_word, setting_word, hyphens, label_of, AreRead, HaveEnded}
+use Rattle.nz_words.specs.Parts.{Flag, Setting, Limit, Stages, Part, Flagged, Valued, Named, flag_word, setting_word, hyphens, AreRead}
 use Rattle.nz_words.proofs.Walking.{filled, shape, row_of, Pending, nothing, value_waits, name_waits, parts_of, pending_of, held_at, open_at, waits_at, ended_at, none_before, none_behind, not_again, used_new}
-use Rattle.nz_words.proofs.Steps.{settles, IsPlain, flag_turn, flag_walk, flag_value, joined_turn, joined_walk, waits_turn, waits_walk, nothing_settles, value_walk, name_turn, name_walk, stray_turn, end_walk, behind_turn, behind_walk, behind_stray}
+use Rattle.nz_words.proofs.Steps.{IsPlain, flag_turn, flag_walk, flag_value, joined_turn, joined_walk, waits_turn, waits_walk, nothing_settles, value_walk, name_turn, name_walk, stray_turn, end_walk, behind_turn, behind_walk, behind_stray}
 use Rattle.nz_words.proofs.Lexing.{LongWord, bare, joined, long_word_is, Named_by, no_key, flag_key, setting_key, named_by}
 use Rattle.nz_words.proofs.Listing.{Listed, listed_none, listed_more, release}
 

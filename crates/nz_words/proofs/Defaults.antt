@@ -1,6 +1,6 @@
 -- What is found of each label, once the flags that do not stand are false.
-use Rattle.std.proofs.Common.{◌≡◌, ◌⊎◌, inl, inr, ◌∙◌, sym, ap, ap₂, subst, refl, ℕ, List, [], ◌∷◌, ◌++◌, map, Bool, true, false, ◌||◌, ◌&&◌, Option, Some, None, is_some, codes}
-use Rattle.std.specs.Prelude.{fold, find, filter, cond, option_map, option_and_then, slice_get, if◌then◌else◌}
+use Rattle.std.proofs.Common.{◌≡◌, inl, inr, ◌∙◌, sym, ap, ap₂, subst, refl, List, [], ◌∷◌, ◌++◌, map, Bool, true, false, ◌||◌, ◌&&◌, Option, Some, None, is_some, codes}
+use Rattle.std.specs.Prelude.{fold, find, filter, cond, option_map, option_and_then, slice_get}
 use Rattle.std.specs.Option.{option_map_or}
 use Rattle.std.specs.Str.{bytes_eq}
 use Rattle.std.proofs.lemmas.Slice.Eq.{bytes_eq-Decides}
@@ -15,7 +15,7 @@ use Rattle.nz_vec.specs.Texts.{Text}
 use Rattle.nz_input.specs.declared.kind.Goal.{Goal}
 use Rattle.nz_input.specs.declared.kind.Goal.TheVariants.{HilbertBasis, ExtremeRays, SupportHyperplanes, Deg1Elements, ModuleGenerators, Triangulation, DualMode, PrimalMode}
 use Rattle.nz_input.specs.Words.{goal_word}
-use Rattle.nz_words.specs.Parts.{Flag, OfGoal, Verbose, Setting, Limit, Stages, Part, Flagged, Valued, Named, flag_word, setting_word, label_of, value_of, given}
+use Rattle.nz_words.specs.Parts.{Flag, OfGoal, Verbose, Limit, Stages, Part, Flagged, Valued, Named, flag_word, setting_word, label_of, value_of, given}
 use Rattle.nz_words.specs.Orders.{GivenData, given_by, all_goals}
 use Rattle.nz_words.specs.Rules.{given_in, is_on, IsFlagIn, AreFlags}
 use Rattle.nz_words.proofs.Walking.{filled, row_of, at_new}

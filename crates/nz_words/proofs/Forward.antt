@@ -1,5 +1,5 @@
 -- Words that are read as parts, none twice and none with a hyphen where it is a value or a name, are taken by `clap`.
-use Rattle.std.proofs.Common.{◌≡◌, ◌⊎◌, inl, inr, ◌∙◌, sym, ap, subst, refl, ℕ, List, [], ◌∷◌, ◌++◌, map, Option, Some, None, false, codes}
+use Rattle.std.proofs.Common.{◌≡◌, ◌⊎◌, inl, inr, ◌∙◌, sym, ap, subst, refl, ℕ, List, [], ◌∷◌, ◌++◌, map, None, false, codes}
 use Rattle.std.specs.Str.{bytes_eq}
 use Rattle.std.proofs.lemmas.List.{append-nil}
 use Rattle.clap.specs.Walk.{Row, Walk, settled_rows, walked}
@@ -8,7 +8,7 @@ use Rattle.nz_vec.specs.Texts.{Text}
 use Rattle.nz_input.specs.declared.kind.Goal.TheVariants.{HilbertBasis, ExtremeRays, SupportHyperplanes, Deg1Elements, ModuleGenerators, Triangulation, DualMode, PrimalMode}
 use Rattle.nz_words.specs.Parts.{Flag, OfGoal, Verbose, Setting, Limit, Stages, Part, Flagged, Valued, Named, flag_word, setting_word, hyphens, label_of, given, AreRead, HaveEnded}
 use Rattle.nz_words.proofs.Walking.{filled, shape, row_of, Pending, nothing, value_waits, name_waits, parts_of, pending_of, open_at, waits_at, ended_at, none_both, again_not, used_new}
-use Rattle.nz_words.proofs.Steps.{settles, IsPlain, flag_turn, flag_walk, joined_turn, joined_walk, waits_turn, waits_walk, value_turn, value_walk, name_turn, name_walk, end_turn, end_walk, behind_turn, behind_walk}
+use Rattle.nz_words.proofs.Steps.{IsPlain, flag_turn, flag_walk, joined_turn, joined_walk, waits_turn, waits_walk, value_turn, value_walk, name_turn, name_walk, end_turn, end_walk, behind_turn, behind_walk}
 use Rattle.nz_words.proofs.Listing.{Listed, listed_less, catch}
 use Rattle.nz_words.proofs.Backward.{Quiet}
 

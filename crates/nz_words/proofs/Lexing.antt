@@ -1,15 +1,15 @@
 -- What a word looks like.
-use Rattle.std.proofs.Common.{◌≡◌, ◌≢◌, ◌⊎◌, inl, inr, ◌∙◌, sym, ap, subst, refl, arith, ℕ, suc, ◌+◌, List, [], ◌∷◌, ◌++◌, length, Bool, true, false, not, ◌&&◌, ◌||◌, Option, Some, None, is_some, codes}
-use Rattle.std.specs.Prelude.{find, cond, map, if◌then◌else◌, ◌==◌}
-use Rattle.std.specs.List.{list_any, before_first, after_first, position_or_len}
+use Rattle.std.proofs.Common.{◌≡◌, inl, ◌∙◌, sym, ap, subst, refl, arith, ℕ, suc, ◌+◌, List, [], ◌∷◌, ◌++◌, Bool, true, false, not, ◌&&◌, ◌||◌, Option, Some, None, is_some}
+use Rattle.std.specs.Prelude.{find, map, if◌then◌else◌, ◌==◌}
+use Rattle.std.specs.List.{before_first, after_first, position_or_len}
 use Rattle.std.specs.Str.{bytes_eq}
 use Rattle.std.proofs.lemmas.Slice.Eq.{bytes_eq-Decides}
-use Rattle.clap.specs.Lexer.{long_of, short_of, strip_byte, has_byte, name_and_value, long_of_rest}
+use Rattle.clap.specs.Lexer.{long_of, has_byte, name_and_value}
 use Rattle.clap.specs.Walk.{Rule, arg_by_long, has_long}
 use Rattle.nz_vec.specs.Texts.{Text}
 use Rattle.nz_words.specs.Parts.{Flag, Setting, flag_word, setting_word, hyphens}
 use Rattle.nz_words.specs.Orders.{BeginsWithDash}
-use Rattle.nz_words.proofs.Walking.{Key, on, set, project, rule_for, keys, filled, filled_flag, filled_setting, filled_name}
+use Rattle.nz_words.proofs.Walking.{Key, on, set, project, rule_for, keys, filled}
 use Rattle.nz_words.proofs.Steps.{IsPlain}
 
 -- the same number, as a test

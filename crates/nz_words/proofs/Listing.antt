@@ -1,16 +1,12 @@
 -- The rows of parts, one after another.
-use Rattle.std.proofs.Common.{◌≡◌, ◌⊎◌, inl, inr, ◌∙◌, sym, ap, ap₂, subst, refl, ℕ, List, [], ◌∷◌, ◌++◌, map, Bool, true, false, ◌||◌, Option, Some, None, codes}
-use Rattle.std.specs.Prelude.{cond, find}
-use Rattle.std.specs.List.{list_any}
+use Rattle.std.proofs.Common.{◌≡◌, ◌∙◌, sym, subst, refl, List, [], ◌∷◌, ◌++◌, map, Bool, true, false, ◌||◌, None, codes}
 use Rattle.std.specs.Str.{bytes_eq}
 use Rattle.std.proofs.lemmas.Slice.Eq.{bytes_eq-Decides}
 use Rattle.std.proofs.lemmas.List.{append-nil, append_assoc}
 use Rattle.clap.specs.Walk.{Row, has_row, settled_rows}
-use Rattle.clap.specs.Kinds.{or_else}
-use Rattle.clap.specs.Faults.{repeat_fault}
 use Rattle.nz_vec.specs.Texts.{Text}
-use Rattle.nz_words.specs.Parts.{Setting, Limit, Stages, Part, Flagged, Valued, Named, setting_word, label_of, value_of, given, NoneTwice}
-use Rattle.nz_words.proofs.Walking.{filled, row_of, Pending, nothing, value_waits, name_waits, parts_of, pending_of, none_before, none_both, not_again, again_not, value_fault, name_fault, value_rows, used_new}
+use Rattle.nz_words.specs.Parts.{Part, Valued, Named, setting_word, label_of, given, NoneTwice}
+use Rattle.nz_words.proofs.Walking.{filled, row_of, Pending, nothing, value_waits, name_waits, parts_of, pending_of, none_before, none_both, not_again, again_not, value_fault, value_rows, used_new}
 use Rattle.nz_words.proofs.Steps.{settles}
 
 pub row_more : (id : Text) (rows : List Row) (r : Row) → has_row id (rows ++ r ∷ []) ≡ (has_row id rows || bytes_eq r.id id)

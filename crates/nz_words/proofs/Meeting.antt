@@ -1,20 +1,20 @@
 -- The words order exactly what is given in what `clap` finds.
-use Rattle.std.proofs.Common.{◌≡◌, ◌≢◌, ◌⊎◌, inl, inr, ◌∙◌, sym, ap, ap₂, subst, refl, arith, ℕ, ◌<◌, List, [], ◌∷◌, ◌++◌, map, length, Bool, true, false, ◌||◌, Option, Some, None, is_some, codes}
-use Rattle.std.specs.Prelude.{fold, cond, if◌then◌else◌}
+use Rattle.std.proofs.Common.{◌≡◌, inl, ◌∙◌, sym, ap, subst, refl, arith, ℕ, List, [], ◌∷◌, map, Bool, true, false, ◌||◌, Option, Some, None, is_some, codes}
+use Rattle.std.specs.Prelude.{fold, if◌then◌else◌}
 use Rattle.std.specs.Str.{bytes_eq}
 use Rattle.std.specs.Str.Parse.{IsNumeral}
 use Rattle.std.proofs.lemmas.Slice.Eq.{bytes_eq-Decides}
-use Rattle.clap.specs.Walk.{Row, Rule, has_row, with_default, nothing_held, walk_from, walk, settled, walked, finished}
-use Rattle.clap.specs.Simple.{App, built, matches_of}
+use Rattle.clap.specs.Walk.{Row, has_row, with_default, nothing_held, walk, settled}
+use Rattle.clap.specs.Simple.{built, matches_of}
 use Rattle.clap.specs.Takes.{is_given}
-use Rattle.clap.specs.Faults.{fault_of, level_fault, default_fault, given_default_fault, defaults_fault, check_fault, walk_fault, settle_fault}
-use Rattle.clap.specs.Kinds.{Kinds, or_else}
+use Rattle.clap.specs.Faults.{fault_of, level_fault, default_fault, given_default_fault, defaults_fault, check_fault}
+use Rattle.clap.specs.Kinds.{Kinds}
 use Rattle.clap.proofs.FaultLemmas.{leaf_fault}
 use Rattle.nz_vec.specs.Texts.{Text}
-use Rattle.nz_words.specs.Parts.{Flag, Setting, Limit, Stages, Part, Flagged, Valued, Named, setting_word, label_of, value_of, given, AreRead, NoneTwice}
-use Rattle.nz_words.specs.Orders.{OrderData, GivenData, given_by, BeginsWithDash, IsNumber, IsLimit, AreStages, IsOrderOf, IsOrder}
+use Rattle.nz_words.specs.Parts.{Setting, Limit, Stages, Part, Flagged, Valued, Named, setting_word, label_of, value_of, given, AreRead, NoneTwice}
+use Rattle.nz_words.specs.Orders.{OrderData, GivenData, given_by, BeginsWithDash, IsLimit, AreStages, IsOrderOf, IsOrder}
 use Rattle.nz_words.specs.Rules.{command_app, given_in, AreFlags}
-use Rattle.nz_words.proofs.Walking.{Key, on, set, project, rule_for, keys, filled, shape, row_of, nothing, held_at, open_at, none_before, none_behind, none_both}
+use Rattle.nz_words.proofs.Walking.{Key, on, set, project, rule_for, keys, filled, shape, row_of, nothing, open_at, none_before, none_behind, none_both}
 use Rattle.nz_words.proofs.Steps.{IsPlain}
 use Rattle.nz_words.proofs.Lexing.{undashed_is_plain}
 use Rattle.nz_words.proofs.Listing.{Listed}

@@ -1,18 +1,17 @@
 -- What one more word does to the walk.
-use Rattle.std.proofs.Common.{◌≡◌, ◌⊎◌, inl, inr, ◌∙◌, sym, ap, ap₂, subst, refl, ℕ, zero, suc, List, [], ◌∷◌, ◌++◌, length, Bool, true, false, Option, Some, None}
+use Rattle.std.proofs.Common.{◌≡◌, ◌⊎◌, inl, inr, refl, ℕ, zero, suc, List, [], ◌∷◌, ◌++◌, length, false, Option, Some, None}
 use Rattle.std.specs.Prelude.{slice_get, ◌==◌}
 use Rattle.std.specs.Str.{bytes_eq, chars}
 use Rattle.clap.specs.Lexer.{long_of, short_of}
-use Rattle.clap.specs.Walk.{Row, Held, Walk, Waiting, Outcome, plain, idle, option, settled_rows, used, walked, word_met, plain_word, subcommand_met, bundle_met, after_step, arg_by_long}
-use Rattle.clap.specs.Faults.{settle_fault, turn_fault, walk_fault, repeat_fault, flags_fault, word_fault}
+use Rattle.clap.specs.Walk.{Row, Held, Waiting, plain, idle, option, settled_rows, used, walked, word_met, plain_word, subcommand_met, bundle_met}
+use Rattle.clap.specs.Faults.{settle_fault, turn_fault, repeat_fault, flags_fault, word_fault}
 use Rattle.clap.specs.Kinds.{Kinds, or_else}
 use Rattle.clap.specs.declared.error.kind.ErrorKind.TheVariants as kind
 use Rattle.clap.proofs.OnLiterals.{clap_on_literals}
 use Rattle.nz_vec.specs.Texts.{Text}
-use Rattle.nz_input.specs.declared.kind.Goal.{Goal}
 use Rattle.nz_input.specs.declared.kind.Goal.TheVariants.{HilbertBasis, ExtremeRays, SupportHyperplanes, Deg1Elements, ModuleGenerators, Triangulation, DualMode, PrimalMode}
-use Rattle.nz_words.specs.Parts.{Flag, OfGoal, Verbose, Setting, Limit, Stages, Part, Flagged, Valued, Named, flag_word, setting_word, hyphens}
-use Rattle.nz_words.proofs.Walking.{filled, filled_flag, filled_setting, filled_name, shape, Pending, nothing, value_waits, name_waits, pending_of, held_at, open_at, waits_at, ended_at}
+use Rattle.nz_words.specs.Parts.{Flag, OfGoal, Verbose, Setting, Limit, Stages, flag_word, setting_word, hyphens}
+use Rattle.nz_words.proofs.Walking.{filled, filled_flag, filled_setting, shape, Pending, nothing, value_waits, name_waits, pending_of, held_at, open_at, waits_at, ended_at}
 
 -- the kinds of what waits
 abbrev pub settles : List Row → Option (Text × List Text) → Kinds

@@ -1,5 +1,5 @@
 -- The words order one thing at most.
-use Rattle.std.proofs.Common.{◌≡◌, ◌∙◌, sym, ap, ap₂, refl, subst, inl, inr, ℕ, List, Bool, Option, Some, None, codes}
+use Rattle.std.proofs.Common.{◌≡◌, ◌∙◌, sym, ap, refl, subst, inl, inr, ℕ, List, Bool, Option, Some, None, codes}
 use Rattle.std.proofs.lemmas.List.{append_cancel_right}
 use Rattle.clap.specs.Simple.{matches_of}
 use Rattle.nz_vec.specs.Texts.{Text}

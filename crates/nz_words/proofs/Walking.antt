@@ -1,25 +1,19 @@
 -- What `clap` makes of the words, word by word.
-use Rattle.std.proofs.Common.{◌≡◌, ◌⊎◌, inl, inr, ◌∙◌, sym, ap, ap₂, subst, refl, rules, arith, ℕ, ◌+◌, List, [], ◌∷◌, ◌++◌, map, min, Bool, true, false, not, ◌&&◌, ◌||◌, Option, Some, None, is_some, codes}
-use Rattle.std.specs.Prelude.{fold, find, cond, option_map, if◌then◌else◌, ◌==◌}
-use Rattle.std.specs.List.{list_any}
-use Rattle.std.specs.Option.{option_map_or}
+use Rattle.std.proofs.Common.{◌≡◌, ap, refl, ℕ, List, [], ◌∷◌, ◌++◌, map, Bool, true, false, ◌||◌, Option, Some, None, codes}
 use Rattle.std.specs.Str.{bytes_eq}
-use Rattle.std.proofs.lemmas.Slice.Eq.{bytes_eq-Decides}
-use Rattle.std.proofs.lemmas.List.{append-nil, append_assoc}
-use Rattle.clap.specs.Lexer.{long_of, short_of}
-use Rattle.clap.specs.Walk.{Row, Rule, Held, Walk, Waiting, idle, option, at_row, has_row, arg_by_long, arg_by_id, arg_by_index, settled_rows, used, walk, walked, with_values}
-use Rattle.clap.specs.Simple.{App, Shape, built, new_shape, is_simple, is_ready, app_of}
-use Rattle.clap.specs.Faults.{settle_fault, turn_fault, walk_fault, fault_of, is_simple_and_free, repeat_fault}
+use Rattle.std.proofs.lemmas.List.{append-nil}
+use Rattle.clap.specs.Lexer.{long_of}
+use Rattle.clap.specs.Walk.{Row, Rule, Held, Walk, idle, option, at_row, has_row, arg_by_long, settled_rows, used, with_values}
+use Rattle.clap.specs.Simple.{Shape, built, new_shape, is_simple}
+use Rattle.clap.specs.Faults.{settle_fault, is_simple_and_free, repeat_fault}
 use Rattle.clap.specs.Kinds.{Kinds, or_else}
 use Rattle.clap.specs.declared.builder.value_parser.ValueParser.TheVariants as vp
 use Rattle.clap.specs.declared.builder.value_parser.Reading.TheVariants as reading
 use Rattle.clap.specs.declared.parser.matches.ValueSource.TheVariants.{CommandLine}
-use Rattle.clap.proofs.OnLiterals.{clap_on_literals}
 use Rattle.nz_vec.specs.Texts.{Text}
-use Rattle.nz_input.specs.declared.kind.Goal.{Goal}
 use Rattle.nz_input.specs.declared.kind.Goal.TheVariants.{HilbertBasis, ExtremeRays, SupportHyperplanes, Deg1Elements, ModuleGenerators, Triangulation, DualMode, PrimalMode}
-use Rattle.nz_words.specs.Parts.{Flag, OfGoal, Verbose, Setting, Limit, Stages, Part, Flagged, Valued, Named, flag_word, setting_word, hyphens, label_of, value_of, given, NoneTwice, Begins, AreRead, HaveEnded}
-use Rattle.nz_words.specs.Rules.{flag_rule, setting_rule, name_rule, all_rules, command_app}
+use Rattle.nz_words.specs.Parts.{Flag, OfGoal, Verbose, Setting, Limit, Stages, Part, Valued, Named, flag_word, setting_word, hyphens, label_of, value_of}
+use Rattle.nz_words.specs.Rules.{flag_rule, setting_rule, name_rule, command_app}
 
 -- ---- the command as it is built
 

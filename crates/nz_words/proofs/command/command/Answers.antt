@@ -1,6 +1,6 @@
-use Rattle.std.proofs.Common.{◌≡◌, ◌∙◌, ap, ap₂, true}
+use Rattle.std.proofs.Common.{◌∙◌, ap, ap₂, true}
 use Rattle.std.proofs.lemmas.Result.{IfOk-weaker}
-use Rattle.clap.specs.Simple.{app_of, app_of_fields, on_top, with_rule}
+use Rattle.clap.specs.Simple.{app_of_fields, on_top, with_rule}
 use Rattle.nz_words.proofs.command.command.Goals as goal
 
 pub returns : goal.returns

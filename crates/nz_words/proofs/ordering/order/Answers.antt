@@ -1,8 +1,8 @@
-use Rattle.std.proofs.Common.{◌≡◌, ◌∙◌, ap, sym, subst}
+use Rattle.std.proofs.Common.{◌∙◌, ap, sym, subst}
 use Rattle.std.proofs.lemmas.Result.{MatchResult-weaker}
 use Rattle.nz_words.specs.Parts.{bytes_of_each}
-use Rattle.nz_words.specs.Orders.{OrderData, GivenData, IsOrderOf}
-use Rattle.nz_words.specs.Rules.{command_app, given_in, AreFlags}
+use Rattle.nz_words.specs.Orders.{GivenData, IsOrderOf}
+use Rattle.nz_words.specs.Rules.{given_in, AreFlags}
 use Rattle.nz_words.proofs.Meeting.{ordered_is_found, found_is_ordered, taken_flags}
 use Rattle.nz_words.proofs.ordering.order.Goals as goal
 

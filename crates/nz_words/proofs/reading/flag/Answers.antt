@@ -1,12 +1,11 @@
-use Rattle.std.proofs.Common.{◌≡◌, ◌∙◌, ap, sym, inl, inr, true, false, codes}
+use Rattle.std.proofs.Common.{◌∙◌, ap, sym, inl, inr, false, codes}
 use Rattle.std.specs.Prelude.{Option}
 use Rattle.std.specs.Option.{option_map_or}
 use Rattle.std.specs.Str.{bytes_eq}
-use Rattle.clap.specs.Walk.{rows_of, one_of}
-use Rattle.clap.specs.Matches.{found_of, one_text}
+use Rattle.clap.specs.Walk.{rows_of}
+use Rattle.clap.specs.Matches.{found_of}
 use Rattle.clap.proofs.WalkLemmas.{one_text-rows}
 use Rattle.nz_vec.specs.Texts.{Text}
-use Rattle.nz_words.specs.Rules.{is_on}
 use Rattle.nz_words.proofs.reading.flag.Goals as goal
 
 pub returns : goal.returns
