@@ -1,18 +1,18 @@
 -- The candidates, simplex by simplex.
-use Rattle.std.proofs.Common.{◌≡◌, ◌⊎◌, ⊎_elim, inl, inr, ℕ, zero, suc, ◌+◌, ◌<◌, ◌≤◌, List, [], ◌∷◌, ◌++◌, length, take, get_or, ℤ, Contains, refl, sym, ap, ◌∙◌, subst, arith}
+use Rattle.std.proofs.Common.{◌≡◌, ◌⊎◌, ⊎_elim, inl, inr, ℕ, zero, suc, ◌+◌, ◌<◌, ◌≤◌, List, [], ◌∷◌, ◌++◌, length, take, get_or, Contains, refl, sym, ap, ◌∙◌, subst, arith}
 use Rattle.std.proofs.lemmas.List.{take_more, take_all}
 use Rattle.std.proofs.lemmas.List.Elements.{Contains-append_left, Contains-append_right, Contains-get_or}
 use Rattle.std.specs.List.{AllByRecursion as Each, AllZip}
 use Rattle.nz_spec.specs.Vectors.{Vector}
 use Rattle.nz_spec.specs.Covers.{vectors_at}
 use Rattle.nz_spec.specs.Order.{MoreThan}
-use Rattle.nz_spec.proofs.ListLaws.{Each-contains, Each-from_contains, contains_here, contains_there, contains_cases, contains_none}
+use Rattle.nz_spec.proofs.ListLaws.{Each-from_contains, contains_here, contains_there, contains_cases, contains_none}
 use Rattle.nz_linear.proofs.Lists.{each_map, each_append}
 use Rattle.nz_vec.specs.declared.answers.Work.{Work}
 use Rattle.nz_vec.specs.declared.answers.Work.TheVariants.{Range, TooMany, Stopped, NoMemory}
 use Rattle.nz_classes.specs.Classes.{IsPoint}
 use Rattle.nz_classes.specs.Walks.{IsFullSimplex, ListsPoints, IsRefusal}
-use Rattle.nz_primal.specs.Parts.{IsPointOf, AreCandidates, AreFullSimplices, ArePointsOf, HasFullSimplex, IsWalkRefusal, IsOneWalkRefusal}
+use Rattle.nz_primal.specs.Parts.{IsPointOf, AreCandidates, AreFullSimplices, ArePointsOf, IsWalkRefusal, IsOneWalkRefusal}
 
 pub zip_at : {A B : Type 0} (R : A → B → Type 0) (xs : List A) (ys : List B) (a : A) (b : B) (i : ℕ) → AllZip R xs ys → i < length xs → (i < length ys) × R (get_or xs i a) (get_or ys i b)
 zip_at R [] [] a b i z l = absurd (let k : ⊥ = omega (arith, l) in k)

@@ -1,10 +1,10 @@
 -- A good cover in coordinates of an independent base is one of the vectors with these coordinates.
-use Rattle.std.proofs.Common.{◌≡◌, ◌≢◌, ℕ, zero, suc, ◌<◌, List, [], ◌∷◌, length, map, get_or, ℤ, pos, ◌≤ℤ◌, ◌<ℤ◌, Contains, refl, sym, ap, ap₂, ◌∙◌, subst, arith}
+use Rattle.std.proofs.Common.{◌≡◌, ℕ, zero, suc, ◌<◌, List, [], ◌∷◌, length, map, get_or, pos, ◌≤ℤ◌, ◌<ℤ◌, Contains, refl, sym, ap, ap₂, subst, arith}
 use Rattle.std.proofs.lemmas.List.{length-map}
 use Rattle.std.proofs.lemmas.List.Elements.{Contains-get_or}
 use Rattle.std.specs.List.{AllByRecursion as Each}
 use Rattle.nz_spec.specs.Vectors.{Vector, combination, HasWidth, IsZero}
-use Rattle.nz_spec.specs.Sums.{IsInside, IsIndependent, IsInCone}
+use Rattle.nz_spec.specs.Sums.{IsInside}
 use Rattle.nz_spec.specs.Covers.{vectors_at, IsSimplex, IsGoodCover, Holds}
 use Rattle.nz_spec.proofs.ListLaws.{Each-contains}
 use Rattle.nz_linear.specs.Coordinates.{AreCoordinates}

@@ -1,16 +1,15 @@
 -- Independent vectors with their dual forms, as many as the width, are a complete dual pair.
-use Rattle.std.proofs.Common.{◌≡◌, ◌≢◌, ◌⊎◌, inl, inr, ℕ, suc, List, [], ◌∷◌, ◌++◌, length, map, ℤ, pos, negsuc, neg_ℤ, Contains, refl, sym, ap, ap₂, ◌∙◌, subst, arith}
+use Rattle.std.proofs.Common.{◌≡◌, ◌≢◌, ◌⊎◌, inl, inr, ℕ, suc, List, [], ◌∷◌, ◌++◌, length, map, pos, negsuc, Contains, refl, sym, ap, ◌∙◌, subst, arith}
 use Rattle.std.proofs.lemmas.Int.{ints}
 use Rattle.std.specs.List.{AllByRecursion as Each, AllZip}
 use Rattle.nz_spec.specs.Vectors.{Vector, dot, plus, scaled, zero_vector, combination, HasWidth, IsZero}
-use Rattle.nz_spec.specs.Sums.{IsInGroup, IsInSpan, IsIndependent, HasRank}
+use Rattle.nz_spec.specs.Sums.{IsInSpan, IsIndependent, HasRank}
 use Rattle.nz_spec.specs.Order.{Pairwise}
 use Rattle.nz_spec.specs.Forms.{IsDualForm, AreDualForms}
 use Rattle.nz_spec.proofs.ListLaws.{contains_here, contains_there, contains_cases, Each-contains, Each-from_contains}
 use Rattle.nz_spec.proofs.SumLaws.{combination-scaled}
-use Rattle.nz_spec.proofs.VectorLaws.{IsZero-zero_vector, one-scaled, plus-opposite}
+use Rattle.nz_spec.proofs.VectorLaws.{IsZero-zero_vector}
 use Rattle.nz_linear.specs.DualPairs.{Pair, pair_of, HasWidths, IsApart, IsDual, IsDualPair, OnlyZero}
-use Rattle.nz_linear.proofs.Lists.{each_map}
 use Rattle.nz_linear.proofs.VectorLaws.{length-scaled, cons_same}
 use Rattle.nz_linear.proofs.Combinations.{combination-skip}
 use Rattle.nz_linear.proofs.Groups.{group_member}

@@ -1,10 +1,10 @@
 -- From a placed cone in second coordinates to its irreducible elements.
-use Rattle.std.proofs.Common.{◌≡◌, ◌≢◌, ◌↔◌, ◌⊎◌, ⊎_elim, inl, inr, ℕ, suc, ◌<◌, Option, None, List, [], ◌∷◌, length, map, ℤ, pos, ◌≤ℤ◌, Contains, refl, sym, ap, ◌∙◌, subst, arith}
+use Rattle.std.proofs.Common.{◌≡◌, ◌≢◌, ◌⊎◌, ⊎_elim, ℕ, suc, None, List, [], ◌∷◌, length, map, Contains, refl, sym, ap, ◌∙◌, subst}
 use Rattle.std.specs.List.{AllByRecursion as Each, AllZip}
 use Rattle.std.specs.List.Sorted.{IsPermutation}
-use Rattle.nz_spec.specs.Vectors.{Vector, dot, combination, zero_vector, HasWidth, IsZero}
-use Rattle.nz_spec.specs.Sums.{IsInCone, IsInBox, HasRank}
-use Rattle.nz_spec.specs.Order.{Pairwise, IsLexBefore, IsListOf, ListsOnce}
+use Rattle.nz_spec.specs.Vectors.{Vector, combination, zero_vector, HasWidth}
+use Rattle.nz_spec.specs.Sums.{IsInCone, IsInBox}
+use Rattle.nz_spec.specs.Order.{Pairwise, IsLexBefore, IsListOf}
 use Rattle.nz_spec.specs.Monoids.{IsPositive, IsIrreducible}
 use Rattle.nz_spec.specs.Stages.{IsInStage}
 use Rattle.nz_spec.specs.Covers.{vectors_at, IsSimplex, IsGoodCover}
@@ -14,30 +14,27 @@ use Rattle.nz_spec.proofs.ListLaws.{Each-contains, Each-from_contains, IsLexBefo
 use Rattle.nz_spec.proofs.LinearLaws.{HasRank-unique}
 use Rattle.nz_spec.proofs.SumLaws.{IsInCone-box}
 use Rattle.nz_linear.specs.Cones.{IsInRows}
-use Rattle.nz_linear.specs.Extreme.{IsPointed}
 use Rattle.nz_linear.proofs.Lists.{each_map, each_map2, each_of_map}
 use Rattle.nz_linear.proofs.ConeMembers.{cone_member, cone_of_members}
 use Rattle.nz_linear.proofs.Pointed.{positive_of_pointed}
 use Rattle.nz_spec.proofs.VectorLaws.{zero_vector_of}
-use Rattle.nz_order.specs.Totals.{IsTotalOf}
 use Rattle.nz_order.specs.Candidates.{IsCandidate}
 use Rattle.nz_order.proofs.TotalLaws.{IsTotalOf-weaker}
 use Rattle.nz_order.proofs.RowLaws.{whole_lattice}
 use Rattle.nz_order.proofs.CandidateLaws.{candidates_generate}
 use Rattle.nz_order.proofs.SortLaws.{Pairwise-different, IsListOf-where}
 use Rattle.nz_order.proofs.SideLaws.{IsIrreducible-where}
-use Rattle.nz_classes.specs.Classes.{IsPoint}
 use Rattle.nz_classes.specs.Walks.{paired, IsFullSimplex}
 use Rattle.nz_reducer.specs.Reducers.{AreSeparated, IsUnreduced}
 use Rattle.nz_reducer.proofs.Generating.{unreduced_irreducible}
 use Rattle.nz_degree.specs.Degrees.{IsInOrder}
 use Rattle.nz_degree.proofs.ElementLaws.{sorted_is_list}
-use Rattle.nz_cover.specs.Placing.{IsInConeOf, IsPlaced}
+use Rattle.nz_cover.specs.Placing.{IsInConeOf}
 use Rattle.nz_sweep.specs.Bases.{Base, IsBase}
 use Rattle.nz_primal.specs.Parts.{IsSecondCone, IsVectorOf, AreFullSimplices, IsPointOf, AreCandidates}
 use Rattle.nz_primal.proofs.DualLemmas.{dual_pair, dual_only_zero, zip_length}
 use Rattle.nz_primal.proofs.CoverCoordinates.{vectors_wide, vectors_listed}
-use Rattle.nz_primal.proofs.SumCoordinates.{image_of, mapped_has, group_coordinates, at_same, at_widths}
+use Rattle.nz_primal.proofs.SumCoordinates.{image_of, mapped_has, at_same, at_widths}
 
 module _ (w : ℕ) (rows rays : List Vector) (k : IsSecondCone w rows rays) where
   abbrev Member : Vector → Type 0

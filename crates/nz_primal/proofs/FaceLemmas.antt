@@ -1,5 +1,5 @@
 -- The base of a face, as rows are cut one by one; and vectors with their coordinates.
-use Rattle.std.proofs.Common.{◌≡◌, ◌↔◌, ◌⊎◌, inl, inr, ⊎_elim, ℕ, zero, suc, ◌+◌, ◌<◌, ◌≤◌, List, [], ◌∷◌, ◌++◌, length, map, take, get_or, ℤ, pos, Contains, refl, sym, ap, ap₂, ◌∙◌, subst, arith}
+use Rattle.std.proofs.Common.{◌≡◌, ◌⊎◌, inl, inr, ⊎_elim, ℕ, zero, suc, ◌+◌, ◌<◌, ◌≤◌, List, [], ◌∷◌, ◌++◌, length, map, take, get_or, ℤ, pos, Contains, refl, sym, ap, ap₂, ◌∙◌, subst, arith}
 use Rattle.std.proofs.lemmas.List.{take_more, take_all, map-append}
 use Rattle.std.proofs.lemmas.List.Elements.{Contains-append_left, Contains-append_right, Contains-get_or}
 use Rattle.std.specs.List.{AllByRecursion as Each}
@@ -9,15 +9,15 @@ use Rattle.nz_spec.proofs.ListLaws.{contains_here, contains_there, contains_case
 use Rattle.nz_spec.proofs.VectorLaws.{zero-plus, scaled-zero, int_is_zero}
 use Rattle.nz_spec.proofs.SumLaws.{length-combination}
 use Rattle.nz_linear.proofs.Lists.{each_append}
-use Rattle.nz_linear.proofs.VectorLaws.{cons_same, length-scaled, plus-zero}
+use Rattle.nz_linear.proofs.VectorLaws.{cons_same}
 use Rattle.nz_linear.proofs.Ring.{sums, mul-one}
 use Rattle.std.proofs.Math.IntN.{*ℤ-zero}
-use Rattle.nz_sweep.specs.Bases.{Base, IsBase}
+use Rattle.nz_sweep.specs.Bases.{Base}
 use Rattle.nz_sweep.proofs.BaseLemmas.{units_are_base}
 use Rattle.nz_linear.specs.Coordinates.{in_coordinates}
 use Rattle.nz_primal.specs.Parts.{IsSecond, IsCutAt}
 use Rattle.nz_sweep.specs.Cuts.{IsCut}
-use Rattle.nz_primal.specs.Second.{VanishesOn, IsInFace, IsFaceBase, HaveCoordinates}
+use Rattle.nz_primal.specs.Second.{VanishesOn, IsFaceBase, HaveCoordinates}
 
 -- ---- all vectors
 shifted_sum : (w : ℕ) (ks : List ℤ) (us : List Vector) → combination (suc w) ks (map (λ u. pos 0 ∷ u) us) ≡ pos 0 ∷ combination w ks us

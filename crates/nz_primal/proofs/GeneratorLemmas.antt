@@ -1,8 +1,8 @@
 -- The extreme rays of a simplex's rows, in another order, are its extreme generators.
-use Rattle.std.proofs.Common.{◌≡◌, ◌≢◌, ℕ, ◌<◌, List, length, pos, ◌≤ℤ◌, Contains, sym, subst}
+use Rattle.std.proofs.Common.{◌≡◌, ℕ, ◌<◌, List, length, pos, ◌≤ℤ◌, Contains}
 use Rattle.std.specs.List.{AllByRecursion as Each}
 use Rattle.nz_spec.specs.Vectors.{Vector, dot, values_at, HasWidth}
-use Rattle.nz_spec.specs.Order.{Pairwise, IsListOf, IsLexBefore}
+use Rattle.nz_spec.specs.Order.{IsListOf}
 use Rattle.nz_spec.specs.Monoids.{IsExtreme}
 use Rattle.nz_spec.specs.Covers.{vectors_at}
 use Rattle.nz_spec.proofs.ListLaws.{Each-contains, Each-from_contains, IsLexBefore-asymmetric}

@@ -1,12 +1,12 @@
 -- Vectors sorted by keys, which are the values of forms and then the entries.
-use Rattle.std.proofs.Common.{◌≡◌, ◌≢◌, ◌⊎◌, inl, inr, ⊎_elim, ℕ, zero, suc, ◌+◌, ◌<◌, List, [], ◌∷◌, ◌++◌, length, map, drop, Option, None, ℤ, pos, ◌-ℤ◌, ◌<ℤ◌, Contains, refl, sym, ap, ap₂, ◌∙◌, subst, arith}
+use Rattle.std.proofs.Common.{◌≡◌, ◌≢◌, ◌⊎◌, inl, inr, ⊎_elim, ℕ, zero, suc, ◌+◌, List, [], ◌∷◌, ◌++◌, length, map, drop, None, ℤ, pos, Contains, refl, sym, ap, ap₂, ◌∙◌, subst, arith}
 use Rattle.std.proofs.lemmas.List.{length-map, length-append}
 use Rattle.std.proofs.lemmas.Int.{ints}
 use Rattle.std.specs.List.{AllByRecursion as Each}
 use Rattle.std.specs.List.Sorted.{IsPermutation}
 use Rattle.std.proofs.lemmas.List.Sorted.{Contains-permutation, IsPermutation-sym}
-use Rattle.nz_spec.specs.Vectors.{Vector, dot, minus, values_at, HasWidth, IsZero}
-use Rattle.nz_spec.specs.Order.{Pairwise, IsLexLess, IsLexBefore, IsListOf}
+use Rattle.nz_spec.specs.Vectors.{Vector, dot, minus, values_at, HasWidth}
+use Rattle.nz_spec.specs.Order.{Pairwise, IsLexBefore, IsListOf}
 use Rattle.nz_spec.proofs.ListLaws.{Each-contains, Each-from_contains, IsLexBefore-asymmetric}
 use Rattle.nz_spec.proofs.VectorLaws.{dot-minus, length-minus}
 use Rattle.nz_spec.proofs.PrimitiveLaws.{same_of_zero_minus}

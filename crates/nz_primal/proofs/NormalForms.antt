@@ -1,5 +1,5 @@
 -- Forms with given values: on an independent base, and in normal form on a list.
-use Rattle.std.proofs.Common.{◌≡◌, ◌≢◌, ◌⊎◌, inl, inr, ⊎_elim, ℕ, suc, List, [], ◌∷◌, ◌++◌, length, map, ℤ, pos, negsuc, neg_ℤ, ◌+ℤ◌, ◌*ℤ◌, ◌≤ℤ◌, ◌<ℤ◌, Contains, refl, sym, ap, ap₂, ◌∙◌, subst, arith}
+use Rattle.std.proofs.Common.{◌≡◌, inl, inr, ℕ, suc, List, [], ◌∷◌, ◌++◌, length, map, ℤ, pos, negsuc, neg_ℤ, ◌+ℤ◌, ◌*ℤ◌, ◌<ℤ◌, Contains, refl, sym, ap, ap₂, ◌∙◌, subst, arith}
 use Rattle.std.proofs.lemmas.Int.{ints}
 use Rattle.std.proofs.Math.IntN.{*ℤ-zero}
 use Rattle.std.proofs.lemmas.List.Elements.{Contains-append_right}
@@ -9,22 +9,19 @@ use Rattle.nz_spec.specs.Sums.{IsInSpan, IsIndependent}
 use Rattle.nz_spec.specs.Forms.{IsOtherColumn}
 use Rattle.nz_spec.proofs.ListLaws.{contains_here, Each-contains, Each-from_contains}
 use Rattle.nz_spec.proofs.SumLaws.{combination-scaled, length-zero_vector}
-use Rattle.nz_spec.proofs.VectorLaws.{IsZero-zero_vector, dot-scaled, dot-IsZero, scaled-scaled}
+use Rattle.nz_spec.proofs.VectorLaws.{IsZero-zero_vector, dot-IsZero, scaled-scaled}
 use Rattle.nz_spec.proofs.EquationLaws.{dot_comm, zero_on_span}
-use Rattle.nz_linear.specs.DualPairs.{Pair, HasWidths, IsApart, IsDual, IsDualPair, product, spread}
-use Rattle.nz_linear.specs.Elimination.{IsState}
-use Rattle.nz_linear.specs.Echelon.{IsColumnPair, AreColumnPairs}
-use Rattle.nz_linear.specs.Division.{IsPrimitiveOf}
-use Rattle.nz_linear.proofs.Ring.{sums, ring_z, mul-one}
-use Rattle.nz_linear.proofs.Signs.{Signed, signed, mul_pos, mul_is_zero}
-use Rattle.nz_linear.proofs.Lists.{each_map, each_map2, each_left, each_right, each_of_map, map_each}
-use Rattle.nz_linear.proofs.VectorLaws.{length-plus, length-scaled, dot-plus, plus-dot, scaled-dot, cons_same}
-use Rattle.nz_linear.proofs.Combinations.{combination-skip}
+use Rattle.nz_linear.specs.DualPairs.{Pair, HasWidths, IsApart, IsDual, product, spread}
+use Rattle.nz_linear.specs.Echelon.{IsColumnPair}
+use Rattle.nz_linear.proofs.Ring.{sums, ring_z}
+use Rattle.nz_linear.proofs.Signs.{signed, mul_pos, mul_is_zero}
+use Rattle.nz_linear.proofs.Lists.{each_map, each_left, each_right, each_of_map}
+use Rattle.nz_linear.proofs.VectorLaws.{length-plus, length-scaled, plus-dot, scaled-dot, cons_same}
 use Rattle.nz_linear.proofs.DualPairs.{product_positive, values_at_spread, vanishes_at_spread, length-spread, dual_left}
 use Rattle.nz_linear.proofs.Division.{primitive_of}
-use Rattle.nz_linear.proofs.EliminationRun.{FoundPivot, find_pivot}
-use Rattle.nz_linear.proofs.KeyColumns.{SomeEchelon, echelon, columns_are_other, primitive_entry}
-use Rattle.nz_linear.proofs.Rank.{in_seen_span, in_chosen_span, seen_vanish, chosen_members}
+use Rattle.nz_linear.proofs.EliminationRun.{find_pivot}
+use Rattle.nz_linear.proofs.KeyColumns.{echelon, columns_are_other, primitive_entry}
+use Rattle.nz_linear.proofs.Rank.{in_seen_span, in_chosen_span, seen_vanish}
 use Rattle.nz_primal.proofs.DualLemmas.{rest_independent}
 use Rattle.nz_linear.proofs.NormalForms.{difference, difference_value}
 

@@ -1,15 +1,15 @@
 -- Support forms and stages of placing are the same in coordinates of an independent base.
-use Rattle.std.proofs.Common.{◌≡◌, ◌≢◌, ◌⊎◌, inl, inr, ℕ, zero, suc, ◌+◌, ◌-◌, List, [], ◌∷◌, ◌++◌, length, map, take, ℤ, pos, ◌*ℤ◌, ◌≤ℤ◌, ◌<ℤ◌, Contains, refl, sym, ap, ap₂, ◌∙◌, subst, arith}
+use Rattle.std.proofs.Common.{◌≡◌, ◌≢◌, inl, inr, ℕ, zero, suc, ◌+◌, ◌-◌, List, [], ◌∷◌, length, map, take, ℤ, pos, ◌*ℤ◌, ◌≤ℤ◌, ◌<ℤ◌, Contains, refl, sym, ap, ap₂, ◌∙◌, subst, arith}
 use Rattle.std.proofs.Math.IntN.{*ℤ-zero}
 use Rattle.std.proofs.lemmas.List.{length-map, map-append}
 use Rattle.std.specs.List.{AllByRecursion as Each, AllZip, range_with_len}
-use Rattle.nz_spec.specs.Vectors.{Vector, dot, scaled, combination, entry, HasWidth, IsPrimitive}
+use Rattle.nz_spec.specs.Vectors.{Vector, dot, combination, entry, HasWidth, IsPrimitive}
 use Rattle.nz_spec.specs.Sums.{IsInSpan, IsIndependent, HasRank}
 use Rattle.nz_spec.specs.Order.{Pairwise, HasNumber}
 use Rattle.nz_spec.specs.Forms.{IsOtherColumn, IsSupportForm}
-use Rattle.nz_spec.specs.Stages.{IsFreshVector, Separates, none, fresh, other, IsIndependentFirst, CountsStages, ArePlacings}
+use Rattle.nz_spec.specs.Stages.{IsFreshVector, Separates, none, fresh, other, IsIndependentFirst, ArePlacings}
 use Rattle.nz_spec.proofs.IntLaws.{mul-nonneg}
-use Rattle.nz_spec.proofs.ListLaws.{contains_here, contains_there, contains_cases, contains_none, Each-contains, Each-from_contains}
+use Rattle.nz_spec.proofs.ListLaws.{contains_here, contains_there, contains_cases, contains_none, Each-contains}
 use Rattle.nz_linear.specs.Coordinates.{in_coordinates}
 use Rattle.nz_linear.proofs.Ring.{sums, ring_z}
 use Rattle.nz_linear.proofs.Signs.{mul_pos, mul_is_zero, mul_is_nonneg}
@@ -18,7 +18,7 @@ use Rattle.nz_linear.proofs.VectorLaws.{scaled-dot}
 use Rattle.nz_linear.proofs.NormalForms.{normal_unique}
 use Rattle.nz_primal.proofs.SumCoordinates as sum
 use Rattle.nz_primal.proofs.SecondLemmas.{row_value}
-use Rattle.nz_primal.proofs.NormalForms.{form_with_values, IsNormalOf, normal_of}
+use Rattle.nz_primal.proofs.NormalForms.{form_with_values, normal_of}
 
 -- ---- values that agree but for positive factors
 nonneg_by : (a b x y : ℤ) → pos 0 <ℤ a → pos 0 <ℤ b → a *ℤ x ≡ b *ℤ y → pos 0 ≤ℤ y → pos 0 ≤ℤ x

@@ -1,15 +1,15 @@
 -- From second coordinates to what the primal run answers.
-use Rattle.std.proofs.Common.{◌≡◌, ◌≢◌, ◌↔◌, ◌⊎◌, ⊎_elim, inl, inr, ℕ, zero, suc, ◌+◌, ◌-◌, ◌<◌, max, List, [], ◌∷◌, ◌++◌, length, map, take, drop, get_or, ℤ, pos, ◌≤ℤ◌, ◌<ℤ◌, Contains, Bool, false, true, refl, sym, ap, ap₂, ◌∙◌, subst, arith}
+use Rattle.std.proofs.Common.{◌≡◌, inl, inr, ℕ, suc, ◌+◌, ◌-◌, max, List, [], ◌∷◌, length, map, ℤ, pos, ◌≤ℤ◌, ◌<ℤ◌, Contains, Bool, false, true, refl, sym, ap, ap₂, ◌∙◌, subst, arith}
 use Rattle.std.proofs.lemmas.List.{length-map, length-append}
 use Rattle.std.proofs.lemmas.List.FromFn.{length-range_with_len}
 use Rattle.std.specs.List.{AllByRecursion as Each, AllZip, range_with_len}
 use Rattle.nz_spec.specs.Vectors.{Vector, dot, combination, HasWidth, IsZero}
-use Rattle.nz_spec.specs.Sums.{IsInCone, IsInBox, IsIndependent, HasRank}
-use Rattle.nz_spec.specs.Order.{Pairwise, IsLexBefore, IsListOf, MoreThan}
+use Rattle.nz_spec.specs.Sums.{IsInBox, IsIndependent, HasRank}
+use Rattle.nz_spec.specs.Order.{IsLexBefore, IsListOf, MoreThan}
 use Rattle.nz_spec.specs.Monoids.{IsIrreducible, IsExtreme}
 use Rattle.nz_spec.specs.Covers.{vectors_at, IsSimplex, IsGoodCover}
-use Rattle.nz_spec.specs.Stages.{IsFreshVector, Separates, none, fresh, other, ArePlacings}
-use Rattle.nz_spec.proofs.ListLaws.{Each-contains, Each-from_contains, contains_here}
+use Rattle.nz_spec.specs.Stages.{Separates, none, fresh, other, ArePlacings}
+use Rattle.nz_spec.proofs.ListLaws.{Each-contains, contains_here}
 use Rattle.nz_spec.proofs.VectorLaws.{IsZero-zero_vector}
 use Rattle.nz_spec.proofs.LinearLaws.{HasRank-unique}
 use Rattle.nz_spec.proofs.SumLaws.{IsInCone-box}
@@ -30,11 +30,11 @@ use Rattle.nz_vec.specs.declared.answers.Work.TheVariants.{Range, TooMany, Stopp
 use Rattle.nz_classes.specs.Classes.{IsPoint}
 use Rattle.nz_cover.specs.Placing.{ArePlaceable, IsInConeOf, IsPlaced, IsPlaceRefusal}
 use Rattle.nz_sweep.specs.Bases.{Base, IsBase}
-use Rattle.nz_primal.specs.Lists.{AreGenerators, ArePrimalLists, IsBoxMember, IsHeld, IsPrimalRefusal}
+use Rattle.nz_primal.specs.Lists.{ArePrimalLists, IsHeld, IsPrimalRefusal}
 use Rattle.nz_primal.specs.Second.{IsFaceBase, HaveCoordinates}
-use Rattle.nz_primal.specs.Parts.{IsSettled, IsSecondCone, IsVectorOf, IsPointOf, HasFullSimplex, IsWalkRefusal, IsFirstRefusal, IsLastRefusal, stage_count}
+use Rattle.nz_primal.specs.Parts.{IsSettled, IsSecondCone, IsVectorOf, HasFullSimplex, IsWalkRefusal, IsFirstRefusal, IsLastRefusal, stage_count}
 use Rattle.nz_primal.proofs.SumCoordinates as sum
-use Rattle.nz_primal.proofs.CoverCoordinates.{vectors_mapped, vectors_wide, vectors_listed, cover_forth}
+use Rattle.nz_primal.proofs.CoverCoordinates.{vectors_wide, vectors_listed, cover_forth}
 use Rattle.nz_primal.proofs.SecondLemmas as second
 use Rattle.nz_primal.proofs.PlacingCoordinates.{placings_forth}
 use Rattle.nz_primal.proofs.ElementLemmas.{different_mapped}

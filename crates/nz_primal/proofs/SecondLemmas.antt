@@ -1,38 +1,38 @@
 -- The extreme rays of a cone in second coordinates: they span all, their cone is that of the rows there, and the whole vectors of it are the members.
-use Rattle.std.proofs.Common.{◌≡◌, ◌↔◌, inl, inr, ℕ, ◌+◌, List, [], ◌∷◌, ◌++◌, length, map, ℤ, pos, negsuc, neg_ℤ, ◌+ℤ◌, ◌*ℤ◌, ◌≤ℤ◌, ◌<ℤ◌, Contains, refl, sym, ap, ap₂, ◌∙◌, subst, arith}
+use Rattle.std.proofs.Common.{◌≡◌, ◌↔◌, inl, inr, ℕ, List, [], ◌∷◌, length, map, ℤ, pos, neg_ℤ, ◌+ℤ◌, ◌*ℤ◌, ◌≤ℤ◌, ◌<ℤ◌, Contains, refl, sym, ap, ap₂, ◌∙◌, subst, arith}
 use Rattle.std.proofs.lemmas.Int.{ints}
 use Rattle.std.specs.List.{AllByRecursion as Each, AllZip}
-use Rattle.nz_spec.specs.Vectors.{Vector, dot, plus, scaled, opposite, zero_vector, combination, HasWidth, IsZero}
+use Rattle.nz_spec.specs.Vectors.{Vector, dot, plus, scaled, opposite, combination, HasWidth, IsZero}
 use Rattle.nz_spec.specs.Sums.{IsInGroup, IsInSpan, IsInCone, HasRank}
 use Rattle.nz_spec.specs.Monoids.{IsPositive}
 use Rattle.nz_spec.specs.Stages.{IsInStage}
-use Rattle.nz_spec.proofs.ListLaws.{Each-contains, Each-from_contains, contains_here, contains_there, contains_cases, contains_none}
-use Rattle.nz_spec.proofs.SumLaws.{IsInSpan-cone, length-zero_vector, length-combination, dot-combination}
+use Rattle.nz_spec.proofs.ListLaws.{Each-contains, Each-from_contains, contains_cases, contains_none}
+use Rattle.nz_spec.proofs.SumLaws.{IsInSpan-cone, length-combination, dot-combination}
 use Rattle.nz_spec.proofs.VectorLaws.{dot-scaled, dot-zero, IsZero-zero_vector}
 use Rattle.nz_spec.proofs.EquationLaws.{zero_on_span, dot_comm}
 use Rattle.nz_linear.specs.DualPairs.{Pair}
 use Rattle.nz_linear.specs.Elimination.{IsState}
-use Rattle.nz_linear.specs.Cones.{IsInRows, Satisfies, IsDoubleDescription}
+use Rattle.nz_linear.specs.Cones.{IsInRows, Satisfies}
 use Rattle.nz_linear.specs.Extreme.{IsPointed}
 use Rattle.nz_linear.specs.RayStep.{AreExtremeRays}
 use Rattle.nz_linear.specs.Coordinates.{AreCoordinates, in_coordinates}
 use Rattle.std.proofs.Math.IntN.{*ℤ-zero}
 use Rattle.nz_linear.proofs.Ring.{sums, mul-one, ring_z}
 use Rattle.nz_linear.proofs.Signs.{mul_le}
-use Rattle.nz_linear.proofs.Lists.{each_map, each_map2, map_each}
+use Rattle.nz_linear.proofs.Lists.{each_map, map_each}
 use Rattle.nz_linear.proofs.VectorLaws.{length-plus, length-scaled, dot-plus, same_values, lengths}
 use Rattle.nz_linear.proofs.Coordinates.{stage_coordinates, coordinates_where, back_at, line_forth}
 use Rattle.nz_linear.proofs.Farkas.{generated, cone_satisfies}
 use Rattle.nz_linear.proofs.Spans.{span_plus, span_scaled, span_zero, span_member}
-use Rattle.nz_linear.proofs.KeyColumns.{SomeEchelon, echelon, IsLeft, all_left}
+use Rattle.nz_linear.proofs.KeyColumns.{echelon, IsLeft, all_left}
 use Rattle.nz_linear.proofs.Rank.{rank_of_state, rank_and_left, seen_span_vanishes}
 use Rattle.nz_linear.proofs.Splitting.{enough_of}
-use Rattle.nz_linear.proofs.SupportForms.{SomePositive, zero_or_positive}
+use Rattle.nz_linear.proofs.SupportForms.{zero_or_positive}
 use Rattle.nz_linear.proofs.Pointed.{positive_of_pointed}
 use Rattle.nz_order.specs.Totals.{total}
 use Rattle.nz_order.proofs.RowLaws.{dot-opposite}
 use Rattle.nz_order.proofs.TotalLaws.{length-total}
-use Rattle.nz_primal.specs.Second.{VanishesOn, IsInFace, IsFaceBase, HaveCoordinates}
+use Rattle.nz_primal.specs.Second.{IsInFace, IsFaceBase, HaveCoordinates}
 use Rattle.nz_primal.proofs.SumCoordinates.{sum_back, sum_forth, zero_of_at}
 
 -- the value of a row at a vector is that of the row in coordinates at its coordinates

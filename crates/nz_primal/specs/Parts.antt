@@ -1,5 +1,5 @@
 -- What the parts of the primal run answer.
-use Rattle.std.specs.Prelude.{◌≡◌, ◌↔◌, ◌⊎◌, ℕ, zero, suc, ◌+◌, ◌-◌, ◌<◌, max, List, [], ◌∷◌, ◌++◌, length, map, get_or, pos, Contains}
+use Rattle.std.specs.Prelude.{◌≡◌, ◌↔◌, ◌⊎◌, ℕ, zero, suc, ◌+◌, ◌-◌, ◌<◌, max, List, ◌++◌, length, map, pos, Contains}
 use Rattle.std.specs.List.{AllByRecursion as Each, AllZip}
 use Rattle.nz_spec.specs.Vectors.{Vector, dot, values_at, combination, HasWidth, IsZero}
 use Rattle.nz_spec.specs.Sums.{IsInCone, HasRank}
