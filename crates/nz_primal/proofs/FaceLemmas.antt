@@ -101,7 +101,7 @@ coordinates_more w base before after vectors i c v l e k a h = record {
 
 -- ---- the steps of the code
 pub face_from_units : (w n : ℕ) (rows rays base : List Vector) → (n ≡ w) × (base ≡ unit_vectors w) → (n ≡ w) × IsFaceBase w (take 0 rows) rays base
-face_from_units w n rows rays base e = let b = units_are_base w base e.1 in (e.0, face_start w rows rays base e.1 b.widths b.independent)
+face_from_units w n rows rays base e = let b = units_are_base w base [] e.1 in (e.0, face_start w rows rays base e.1 b.widths b.independent)
 
 vanishes_or_not : (rays : List Vector) (row : Vector) → VanishesOn rays row ⊎ (¬ VanishesOn rays row)
 vanishes_or_not [] row = inl tt

@@ -1,13 +1,13 @@
-mod SumCoordinates
-mod CoverCoordinates
+pub mod SumCoordinates
+pub mod CoverCoordinates
 mod SecondLemmas
 mod DualLemmas
 mod NormalForms
-mod PlacingCoordinates
+pub mod PlacingCoordinates
 mod FaceLemmas
-mod LoopLemmas
+pub mod LoopLemmas
 mod KeyLemmas
-mod GeneratorLemmas
+pub mod GeneratorLemmas
 mod CandidateLemmas
-mod ElementLemmas
-mod RunLemmas
+pub mod ElementLemmas
+pub mod RunLemmas

@@ -40,16 +40,16 @@ use Rattle.nz_primal.proofs.PlacingCoordinates.{placings_forth}
 use Rattle.nz_primal.proofs.ElementLemmas.{different_mapped}
 
 -- ---- what a watch was told, by other words for the stages
-abbrev passed_where : (P Q : List Pair → Type 0) → ((ps : List Pair) → P ps → Q ps) → (told passed : ℕ) (a b : Watched) (s : Bool) → HasPassed P told passed a b s → HasPassed Q told passed a b s
+abbrev pub passed_where : (P Q : List Pair → Type 0) → ((ps : List Pair) → P ps → Q ps) → (told passed : ℕ) (a b : Watched) (s : Bool) → HasPassed P told passed a b s → HasPassed Q told passed a b s
 passed_where P Q f told passed a b s h = record { stages = h.stages; are_stages = f h.stages h.are_stages; within = h.within; was_told = h.was_told }
 
-all_where : (P Q : List Pair → Type 0) → ((ps : List Pair) → P ps → Q ps) → (told : ℕ) (a b : Watched) → HasPassedAll P told a b → HasPassedAll Q told a b
+pub all_where : (P Q : List Pair → Type 0) → ((ps : List Pair) → P ps → Q ps) → (told : ℕ) (a b : Watched) → HasPassedAll P told a b → HasPassedAll Q told a b
 all_where P Q f told a b h = record { passed = h.passed; telling = passed_where P Q f told h.passed a b false h.telling; all = h.all }
 
-stopped_where : (P Q : List Pair → Type 0) → ((ps : List Pair) → P ps → Q ps) → (told stage : ℕ) (a b : Watched) → HasStopped P told stage a b → HasStopped Q told stage a b
+pub stopped_where : (P Q : List Pair → Type 0) → ((ps : List Pair) → P ps → Q ps) → (told stage : ℕ) (a b : Watched) → HasStopped P told stage a b → HasStopped Q told stage a b
 stopped_where P Q f told stage a b h = record { passed = h.passed; new = h.new; telling = passed_where P Q f told h.passed a b true h.telling; is_last = h.is_last }
 
-left_where : (P Q : List Pair → Type 0) → ((ps : List Pair) → P ps → Q ps) → (told number : ℕ) (a b : Watched) → HasLeft P told number a b → HasLeft Q told number a b
+pub left_where : (P Q : List Pair → Type 0) → ((ps : List Pair) → P ps → Q ps) → (told number : ℕ) (a b : Watched) → HasLeft P told number a b → HasLeft Q told number a b
 left_where P Q f told number a b h = record { passed = h.passed; telling = passed_where P Q f told h.passed a b false h.telling; is_greater = h.is_greater }
 
 -- ---- how many stages there are
