@@ -149,6 +149,14 @@ cleared_of w c v f g a b lf lv lc z k e = record {
     less : (x y : ℤ) → (x +ℤ y) -ℤ y ≡ x
     less x y = omega (arith, ints)
 
+-- outside the column the entries are multiples of those before
+pub cleared_entry : (w c : ℕ) (v f g : Vector) (k : IsClearedOf w c v f g) → HasWidth w f → (j : ℕ) → j ≢ c → entry g j ≡ k.factor *ℤ entry f j
+cleared_entry w c v f g k l j n =
+    ap (λ t. entry t j) k.same ∙ entry_sum w k.factor f (scaled k.own u) j l (length-scaled w k.own u (length-unit_at w c)) ∙ ap (λ t. k.factor *ℤ entry f j +ℤ t) (entry-scaled k.own u j ∙ ap (λ t. k.own *ℤ t) (entry-unit_other w c j (λ e. n (sym e))) ∙ *ℤ-zero k.own) ∙ omega (arith, ints)
+  where
+    u : Vector
+    u = unit_at w c
+
 -- ---- all steps
 pub bottom_start : (w : ℕ) (columns : List ℕ) (vs : List Vector) (c n : ℕ) (s : ℤ) → c < w → IsSign s → IsFromBottom w columns vs c s n n (scaled s (unit_at w c))
 bottom_start w columns vs c n s l h = record {
@@ -193,7 +201,7 @@ module _ (w : ℕ) (columns : List ℕ) (vs : List Vector) (c : ℕ) (s : ℤ) (
       lb = length-scaled w k.own u (length-unit_at w (column_at columns first))
 
       other : (j : ℕ) → j ≢ column_at columns first → entry g j ≡ k.factor *ℤ entry f j
-      other j n = ap (λ t. entry t j) k.same ∙ entry_sum w k.factor f (scaled k.own u) j b.width lb ∙ ap (λ t. k.factor *ℤ entry f j +ℤ t) (entry-scaled k.own u j ∙ ap (λ t. k.own *ℤ t) (entry-unit_other w (column_at columns first) j (λ e. n (sym e))) ∙ *ℤ-zero k.own) ∙ omega (arith, ints)
+      other = cleared_entry w (column_at columns first) (vector_at vs first) f g k b.width
 
       turn : (s a e : ℤ) → s *ℤ (a *ℤ e) ≡ a *ℤ (s *ℤ e)
       turn s a e = simp ring_z (omega (arith, sums))
@@ -231,25 +239,29 @@ pub zero_behind : (w : ℕ) (columns : List ℕ) (vs : List Vector) (c : ℕ) (s
 zero_behind w columns vs c s first end f j a b l h =
     dot_at_lead f (vector_at vs j) (column_at columns j) (lead_at columns vs j a l) (λ k m. b.after k (omega (arith, m, h))) ∙ ap (λ t. t *ℤ entry (vector_at vs j) (column_at columns j)) (b.after (column_at columns j) h) ∙ zero-*ℤ (entry (vector_at vs j) (column_at columns j))
 
+pub divisor_positive : (w : ℕ) (columns : List ℕ) (vs : List Vector) (i : ℕ) (c : Coordinate) → AreLeading columns vs → i < length vs → IsDualAt w columns vs i c → pos 0 <ℤ c.divisor
+divisor_positive w columns vs i c a l d =
+    let p = entry (vector_at vs i) (column_at columns i) in
+    subst (λ (t : ℤ). pos 0 <ℤ t) (sym (d.divisor ∙ dot_at_lead c.form (vector_at vs i) (column_at columns i) (lead_at columns vs i a l) d.form.after ∙ *ℤ_comm (entry c.form (column_at columns i)) p)) d.form.sign
+
+pub dual_apart : (w : ℕ) (columns : List ℕ) (vs : List Vector) (i j : ℕ) (c : Coordinate) → AreLeading columns vs → i < length vs → j < length vs → i ≢ j → IsDualAt w columns vs i c → dot c.form (vector_at vs j) ≡ pos 0
+dual_apart w columns vs i j c a li lj n d = elim (cases_lt j i) [
+  | inl q ↦ d.form.zero_on j (omega arith) q
+  | inr q ↦ zero_behind w columns vs (column_at columns i) (entry (vector_at vs i) (column_at columns i)) 0 i c.form j a d.form lj (leads_later columns vs i j a (different q) lj)
+]
+  where
+    different : i ≤ j → i < j
+    different q = elim (cases_lt i j) [ inl h ↦ h | inr h ↦ absurd (n (omega (arith, h, q))) ]
+
 pub dual_of_each : (w : ℕ) (columns : List ℕ) (vs : List Vector) (cs : List Coordinate) → Each (HasWidth w) vs → AreLeading columns vs → AreDualEach w columns vs cs → AreDual w vs cs
 dual_of_each w columns vs cs wide a d = record {
   one_each = d.one_each;
   vector_width = λ i l. each_at (HasWidth w) [] vs i wide l;
   form_width = λ i l. (d.each i l).form.width;
-  positive = λ i l.
-      let b = (d.each i l).form in
-      let p = entry (vector_at vs i) (column_at columns i) in
-      let f = (coordinate_at cs i).form in
-      subst (λ (t : ℤ). pos 0 <ℤ t) (sym ((d.each i l).divisor ∙ dot_at_lead f (vector_at vs i) (column_at columns i) (lead_at columns vs i a l) b.after ∙ *ℤ_comm (entry f (column_at columns i)) p)) b.sign;
+  positive = λ i l. divisor_positive w columns vs i (coordinate_at cs i) a l (d.each i l);
   own = λ i l. sym (d.each i l).divisor;
-  apart = λ i j li lj n. elim (cases_lt j i) [
-    | inl q ↦ (d.each i li).form.zero_on j (omega arith) q
-    | inr q ↦ zero_behind w columns vs (column_at columns i) (entry (vector_at vs i) (column_at columns i)) 0 i (coordinate_at cs i).form j a (d.each i li).form lj (leads_later columns vs i j a (different i j n q) lj)
-  ];
+  apart = λ i j li lj n. dual_apart w columns vs i j (coordinate_at cs i) a li lj n (d.each i li);
 }
-  where
-    different : (i j : ℕ) → i ≢ j → i ≤ j → i < j
-    different i j n q = elim (cases_lt i j) [ inl h ↦ h | inr h ↦ absurd (n (omega (arith, h, q))) ]
 
 -- ---- as the code has them
 default_same : {A : Type 0} (d e : A) (xs : List A) (i : ℕ) → i < length xs → get_or xs i d ≡ get_or xs i e

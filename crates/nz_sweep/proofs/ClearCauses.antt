@@ -10,7 +10,7 @@ use Rattle.nz_scalar.specs.Division.{IsFloorQuotient}
 use Rattle.nz_scalar.specs.Room.{IsWithin, HasRoom}
 use Rattle.nz_vec.specs.Combinations.{CombinationFits}
 use Rattle.nz_range.proofs.Fits.{size_within}
-use Rattle.nz_sweep.specs.Clearing.{Valued, values_of, IsPivot}
+use Rattle.nz_sweep.specs.Clearing.{Valued, values_of, IsPivot, AreRounds}
 use Rattle.nz_sweep.specs.Duals.{Coordinate, coordinate_at}
 use Rattle.nz_sweep.specs.Numbers.{SomeNumberLarge, IsOfValued, entry_in, value_in, IsTakingNumber, IsRoundNumber, of_valued, of_taking, IsClearingNumber}
 use Rattle.nz_sweep.specs.Rounds.{State, GoesInto, Gathers, Leads, onward}
@@ -115,10 +115,17 @@ removed_held (v ∷ vs) zero = each_map (Contains vs) (Contains (v ∷ vs)) vs (
     each_own_of (u ∷ us) = (contains_here u us, each_map (Contains us) (Contains (u ∷ us)) us (λ y k. contains_there u y us k) (each_own_of us))
 removed_held (v ∷ vs) (suc i) = (contains_here v vs, each_map (Contains vs) (Contains (v ∷ vs)) (remove vs i) (λ u c. contains_there v u vs c) (removed_held vs i))
 
+rest_within : (vs : List Valued) (place : ℕ) (own : Valued) (rest : List Valued) → place < length vs → own ≡ get_or vs place own → rest ≡ remove vs place → (n : ℤ) → IsOfValued (own ∷ rest) n → IsOfValued vs n
+rest_within vs place own rest l e f n k =
+    let held : Each (Contains vs) (own ∷ rest) = (element_held vs place own own l e, subst (Each (Contains vs)) (sym f) (removed_held vs place)) in
+    valued_within (own ∷ rest) vs held n k
+
 pub rest_large : (h : ℤ) (s : State) (place : ℕ) (own : Valued) (rest : List Valued) → place < length s.valued → own ≡ get_or s.valued place own → rest ≡ remove s.valued place → SomeNumberLarge h (IsOfValued (own ∷ rest)) → SomeNumberLarge h (IsRoundNumber s place)
-rest_large h s place own rest l e f u =
-    let held : Each (Contains s.valued) (own ∷ rest) = (element_held s.valued place own own l e, subst (Each (Contains s.valued)) (sym f) (removed_held s.valued place)) in
-    some_map h (λ n k. of_valued (valued_within (own ∷ rest) s.valued held n k)) u
+rest_large h s place own rest l e f u = some_map h (λ n k. of_valued (rest_within s.valued place own rest l e f n k)) u
+
+-- so it is where no coordinates are kept
+pub moment_large : (h : ℤ) (all vs : List Valued) (place : ℕ) (own : Valued) (rest : List Valued) → AreRounds all vs → place < length vs → own ≡ get_or vs place own → rest ≡ remove vs place → SomeNumberLarge h (IsOfValued (own ∷ rest)) → SomeNumberLarge h (λ n. (moment : List Valued) × AreRounds all moment × IsOfValued moment n)
+moment_large h all vs place own rest r l e f u = some_map h (λ n k. (vs, r, rest_within vs place own rest l e f n k)) u
 
 pub round_large : (h : ℤ) (s t : State) (place : ℕ) → Leads s t → IsPivot (values_of t.valued) (length t.valued) place → SomeNumberLarge h (IsRoundNumber t place) → SomeNumberLarge h (IsClearingNumber s)
 round_large h s t place k p u = some_map h (λ n c. record { moment = t; place = place; leads = k; pivot = p; number = c }) u

@@ -7,7 +7,7 @@ use Rattle.std.proofs.Math.IntN.{*ℤ-zero, *ℤ_comm}
 use Rattle.nz_spec.specs.Vectors.{Vector, dot, plus, minus, combination, zero_vector, entry, HasWidth, IsZero, IsMultipleOf}
 use Rattle.nz_spec.specs.Sums.{IsInGroup}
 use Rattle.nz_spec.specs.Order.{Pairwise}
-use Rattle.nz_spec.specs.Forms.{LeadsAt, IsKeyColumn, IsOtherColumn, IsEquationAt, AreEquations}
+use Rattle.nz_spec.specs.Forms.{LeadsAt, IsKeyColumn, IsOtherColumn, IsEquationAt, AreEquations, IsEquation}
 use Rattle.nz_spec.specs.Systems.{Congruence, IsMultipleBy}
 use Rattle.nz_spec.specs.Constraints.{Constraint, Zero, Meets, MeetsAll, constraint_of}
 use Rattle.nz_spec.proofs.EquationLaws.{zero_on_span, column_cases}
@@ -22,13 +22,13 @@ use Rattle.nz_linear.proofs.Spans.{span_member}
 use Rattle.nz_linear.proofs.Units.{value_at_end}
 use Rattle.nz_sweep.specs.Duals.{Coordinate, coordinate_at, vector_at, AreDual}
 use Rattle.nz_sweep.specs.Generating.{AreLeading, IsEchelon}
-use Rattle.nz_sweep.specs.Bottom.{column_at, IsFromBottom, AreDualEach}
+use Rattle.nz_sweep.specs.Bottom.{column_at, IsFromBottom, IsDualAt, AreDualEach}
 use Rattle.nz_sweep.specs.GroupConstraints.{congruence_of, IsDualCoordinate, AreAboveOne, none, pass, keep, AreGroupConstraints, IsBetween, AreEquationsBefore}
 use Rattle.nz_sweep.proofs.PlaceLemmas.{each_of_places}
 use Rattle.nz_sweep.proofs.DualLemmas.{coordinate_of_sum}
 use Rattle.nz_sweep.proofs.InsideLemmas.{in_group_coordinate}
 use Rattle.nz_sweep.proofs.GeneratingLemmas.{form_zero}
-use Rattle.nz_sweep.proofs.BottomLemmas.{zip_lengths, increasing, lead_at, zero_behind, dual_of_each}
+use Rattle.nz_sweep.proofs.BottomLemmas.{zip_lengths, increasing, lead_at, zero_behind, divisor_positive, dual_apart, dual_of_each}
 
 -- ---- lists by their places
 contains_at : {A : Type 0} (d : A) (xs : List A) (i : ℕ) → i < length xs → Contains xs (get_or xs i d)
@@ -107,26 +107,29 @@ module _ (w : ℕ) (columns : List ℕ) (vs : List Vector) (wide : Each (HasWidt
       other_apart k o p.place (omega (arith, n, l)) (sym p.same)
 
   -- ---- the dual forms
+  pub dual_at : (i : ℕ) (c : Coordinate) → i < length vs → IsDualAt w columns vs i c → IsDualCoordinate w vs (vector_at vs i) c
+  dual_at i c l d =
+      let s = split_at c.form vs i l in
+      record {
+        form = record {
+          earlier = s.earlier;
+          later = s.later;
+          whole = s.whole;
+          width = d.form.width;
+          primitive = d.form.primitive;
+          zero_at = λ k o. d.form.zero_at k (other_apart k o i l) (λ j m h. other_apart k o j (omega (arith, l, h)));
+          positive = subst (λ (t : ℤ). pos 0 <ℤ t) d.divisor (divisor_positive w columns vs i c a l d);
+          zero_on = s.each (λ j m n. dual_apart w columns vs i j c a l m n d);
+        };
+        divisor = d.divisor;
+      }
+
   module _ (cs : List Coordinate) (d : AreDualEach w columns vs cs) where
     dual : AreDual w vs cs
     dual = dual_of_each w columns vs cs wide a d
 
     dual_form : (i : ℕ) → i < length vs → IsDualCoordinate w vs (vector_at vs i) (coordinate_at cs i)
-    dual_form i l =
-        let s = split_at (coordinate_at cs i).form vs i l in
-        record {
-          form = record {
-            earlier = s.earlier;
-            later = s.later;
-            whole = s.whole;
-            width = (d.each i l).form.width;
-            primitive = (d.each i l).form.primitive;
-            zero_at = λ k o. (d.each i l).form.zero_at k (other_apart k o i l) (λ j m h. other_apart k o j (omega (arith, l, h)));
-            positive = subst (λ (t : ℤ). pos 0 <ℤ t) (d.each i l).divisor (dual.positive i l);
-            zero_on = s.each (λ j m n. dual.apart i j l m n);
-          };
-          divisor = (d.each i l).divisor;
-        }
+    dual_form i l = dual_at i (coordinate_at cs i) l (d.each i l)
 
     pub dual_forms : AllZip (IsDualCoordinate w vs) vs cs
     dual_forms = zip_of_places (IsDualCoordinate w vs) [] (record { form = []; divisor = pos 0 }) vs cs (sym d.one_each) dual_form
@@ -158,6 +161,11 @@ module _ (w : ℕ) (columns : List ℕ) (vs : List Vector) (wide : Each (HasWidt
         },
         record { nonzero = λ z. omega (arith, ints, s, z); after = b.after },
       )
+
+  pub equation_found : (c n : ℕ) (f : Vector) → c < w → IsBetween columns c n → IsFromBottom w columns vs c (pos 1) 0 n f → IsEquation w vs f
+  equation_found c n f l between b =
+      let e = equation_at c n f between b in
+      (c, record { within = l; not_key = λ (key : IsKeyColumn w vs c). value_at_end f key.0 c e.1 key.2 (zero_on_span f w vs key.0 wide e.0.zero_on key.1) }, e.0)
 
   pub no_equations : AreEquationsBefore w columns vs 0 []
   no_equations = record { others = []; forms = []; in_order = tt; only = tt; all = λ k l n. absurd (omega (arith, l)); each = tt; whole = refl }

@@ -62,7 +62,7 @@ quotient_large h fits r a b n u =
     ⊎_elim (λ l. absurd (u q f (within_self h fits r q (size_within h q (let s = quotient_within a b q n f in omega (arith, ints, s, l)))))) (λ l. l) (or_large h (unsigned_abs a))
 
 -- ---- common divisors
-some_gcd : (xs : Vector) → (d : ℤ) × HasGcd xs d
+pub some_gcd : (xs : Vector) → (d : ℤ) × HasGcd xs d
 some_gcd xs = let s = gcd_of xs in (s.g, record { nonneg = s.is.nonneg; divides = s.is.divides; greatest = λ k m. common_divides_gcd k s.g xs s.is m })
 
 pub gcd_large : (h : ℤ) (fits : ℤ → Type 0) → HasRoom h fits → (a b : ℤ) → pos 0 <ℤ a → ((z : ℤ) → HasGcd (a ∷ b ∷ []) z → ¬ fits z) → h <ℤ a

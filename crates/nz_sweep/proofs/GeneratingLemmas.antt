@@ -134,12 +134,14 @@ unfolding IsZeroBefore
 generates w rows base l s = apart_base w 0 rows base l (Each-from_contains (IsZeroBefore 0) rows (λ v c k i. absurd (omega (arith, i)))) s
 
 -- ---- as the code has it: what is set apart from a column on comes after what was before
+pub column_zero : (w c : ℕ) (left : List Vector) (form : Vector) (list : List Valued) → Each (HasWidth w) left → form ≡ unit_at w c → AreValued (IsValueAt form) left list → AreZero list → Each (λ u. entry u c ≡ pos 0) left
+column_zero w c left form list l e v z = each_map2 (HasWidth w) (λ u. dot form u ≡ pos 0) (λ u. entry u c ≡ pos 0) left (λ u a b. sym (unit_at-dot w c u a) ∙ ap (λ t. dot t u) (sym e) ∙ b) l (zeros_are form left list v z)
+
 pub apart_passed : (w c : ℕ) (left base rest : List Vector) (form : Vector) (list : List Valued) → Each (HasWidth w) left → form ≡ unit_at w c → AreValued (IsValueAt form) left list → AreZero list → AreSetApart w (c + 1) left rest → (more : List Vector) × AreSetApart w c left more × (base ++ more ≡ base ++ rest)
 apart_passed w c left base rest form list l e v z s =
-    let zero = zeros_are form left list v z in
     let e' : c + 1 ≡ suc c = omega arith in (
       rest,
-      pass (each_map2 (HasWidth w) (λ u. dot form u ≡ pos 0) (λ u. entry u c ≡ pos 0) left (λ u a b. sym (unit_at-dot w c u a) ∙ ap (λ t. dot t u) (sym e) ∙ b) l zero) (subst (λ (n : ℕ). AreSetApart w n left rest) e' s),
+      pass (column_zero w c left form list l e v z) (subst (λ (n : ℕ). AreSetApart w n left rest) e' s),
       refl,
     )
 

@@ -18,3 +18,5 @@ pub mod TermLemmas
 pub mod GeneratingLemmas
 pub mod BottomLemmas
 pub mod ConstrainingLemmas
+pub mod BottomCauses
+pub mod ColumnCauses

@@ -1,11 +1,16 @@
 -- The numbers that a sweep forms, by which the causes of Range are stated.
-use Rattle.std.specs.Prelude.{◌⊎◌, ℕ, List, [], ◌∷◌, length, ℤ, pos, ◌*ℤ◌, ◌<ℤ◌, unsigned_abs, Contains}
-use Rattle.nz_spec.specs.Vectors.{Vector}
+use Rattle.std.specs.Prelude.{◌≡◌, ◌⊎◌, ℕ, suc, ◌<◌, List, [], ◌∷◌, length, ℤ, pos, ◌*ℤ◌, ◌<ℤ◌, unsigned_abs, Contains}
+use Rattle.std.specs.List.{AllByRecursion as Each}
+use Rattle.nz_spec.specs.Vectors.{Vector, entry}
+use Rattle.nz_spec.specs.Forms.{IsDualForm, IsEquation}
+use Rattle.nz_linear.specs.Echelon.{unit_at}
 use Rattle.nz_range.specs.Measures.{pair_measure}
-use Rattle.nz_sweep.specs.Clearing.{Valued, values_of, IsPivot}
+use Rattle.nz_sweep.specs.Clearing.{Valued, vectors_of, values_of, IsPivot, AreRounds, IsCleared}
 use Rattle.nz_sweep.specs.Cuts.{AreValued, IsValueAt, IsRemainderAt, IsCofactor}
-use Rattle.nz_sweep.specs.Duals.{Coordinate, coordinate_at}
+use Rattle.nz_sweep.specs.Duals.{Coordinate, coordinate_at, vector_at}
 use Rattle.nz_sweep.specs.Bases.{Base}
+use Rattle.nz_sweep.specs.Bottom.{column_at, IsFromBottom}
+use Rattle.nz_sweep.specs.Generating.{AreSetApart}
 use Rattle.nz_sweep.specs.Rounds.{State, AreFactors, GoesInto, Gathers, Leads, ClearsTo, start_of}
 
 -- one of these numbers is above the bound in size
@@ -81,3 +86,38 @@ pub data IsCongruenceNumber (h : Vector) (m : ℤ) (b : Base) : ℤ → Type 0 w
   of_measure : {n : ℤ} → IsMeasureOf h b.vectors n → IsCongruenceNumber h m b n
   of_clearing : {values : List Valued} {n : ℤ} → AreValued (IsRemainderAt h m) b.vectors values → IsClearingNumber (start_of b values) n → IsCongruenceNumber h m b n
   of_multiplying : {values others : List Valued} {s : State} {place : ℕ} {own : Valued} {n : ℤ} → AreValued (IsRemainderAt h m) b.vectors values → ClearsTo (start_of b values) s place own others → IsMultiplyingNumber m own (coordinate_at s.coordinates place) n → IsCongruenceNumber h m b n
+
+-- ---- the forms of a base
+-- the entries of the form, and its measures at the vectors
+abbrev pub IsFormNumber : Vector → List Vector → ℤ → Type 0
+IsFormNumber f vs n = Contains f n ⊎ IsMeasureOf f vs n
+
+-- those of the dual forms of the vectors
+pub data IsDualNumber (w : ℕ) (vs : List Vector) : ℤ → Type 0 where
+  of_dual : {v f : Vector} {n : ℤ} → IsDualForm w vs v f → IsFormNumber f vs n → IsDualNumber w vs n
+
+-- those of the dual forms and of the equations of the vectors
+pub data IsConstraintNumber (w : ℕ) (vs : List Vector) : ℤ → Type 0 where
+  of_dual_form : {n : ℤ} → IsDualNumber w vs n → IsConstraintNumber w vs n
+  of_equation : {f : Vector} {n : ℤ} → IsEquation w vs f → IsFormNumber f vs n → IsConstraintNumber w vs n
+
+-- where f is cleared of v at column c: the entry of v there, the entries of f, and its measure at v
+abbrev pub IsBottomStepNumber : ℕ → Vector → Vector → ℤ → Type 0
+IsBottomStepNumber c v f n = (n ≡ entry v c) ⊎ IsFormNumber f (v ∷ []) n
+
+-- where a form begins at column c and is cleared of the vectors up to the place `end`: the entries with which these lead, and the numbers of the form that comes of it
+pub data IsBottomNumber (w : ℕ) (columns : List ℕ) (vs : List Vector) (c : ℕ) (s : ℤ) (end : ℕ) : ℤ → Type 0 where
+  leading : {i : ℕ} → i < end → IsBottomNumber w columns vs c s end (entry (vector_at vs i) (column_at columns i))
+  coming : {f : Vector} {n : ℤ} → IsFromBottom w columns vs c s 0 end f → IsFormNumber f vs n → IsBottomNumber w columns vs c s end n
+
+-- ---- generators
+-- from column c on, of w columns: the entries and the values of the rows that are left, at each moment of clearing a column
+pub data IsColumnNumber (w : ℕ) : ℕ → List Vector → ℤ → Type 0 where
+  at_column : {c : ℕ} {rows : List Vector} {values moment : List Valued} {n : ℤ} → AreValued (IsValueAt (unit_at w c)) rows values → AreRounds values moment → IsOfValued moment n → IsColumnNumber w c rows n
+  passing : {c : ℕ} {rows : List Vector} {n : ℤ} → Each (λ v. entry v c ≡ pos 0) rows → IsColumnNumber w (suc c) rows n → IsColumnNumber w c rows n
+  taking : {c : ℕ} {rows : List Vector} {values : List Valued} {place : ℕ} {own : Valued} {others : List Valued} {n : ℤ} → AreValued (IsValueAt (unit_at w c)) rows values → IsCleared values place own others → IsColumnNumber w (suc c) (vectors_of others) n → IsColumnNumber w c rows n
+
+-- those of all columns, and those of the dual forms of the base that is set apart
+pub data IsGeneratingNumber (w : ℕ) (rows : List Vector) : ℤ → Type 0 where
+  of_column : {n : ℤ} → IsColumnNumber w 0 rows n → IsGeneratingNumber w rows n
+  of_base : {base : List Vector} {n : ℤ} → AreSetApart w 0 rows base → IsDualNumber w base n → IsGeneratingNumber w rows n

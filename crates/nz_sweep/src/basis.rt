@@ -1,5 +1,5 @@
 ghost use Rattle.std.specs.Prelude.{◌≡◌, ◌<◌, ◌≤ℤ◌, ◌↔◌, ℤ, pos, map, IfOk, IfErr, OnOk, OnErr, MatchOption, MatchResult, length};
-ghost use Rattle.std.specs.List.{AllByRecursion as Each};
+ghost use Rattle.std.specs.List.{AllByRecursion as Each, AllZip};
 ghost use Rattle.nz_spec.specs.Vectors.{Vector, combination, dot, unit_vectors, HasWidth, IsMultipleOf};
 ghost use Rattle.nz_spec.specs.Sums.{IsInGroup};
 ghost use Rattle.nz_spec.specs.Constraints.{MeetsAll};
@@ -7,10 +7,10 @@ ghost use Rattle.nz_linear.specs.Coordinates.{in_coordinates};
 ghost use Rattle.nz_sweep.specs.Bases.{IsBase, column_of, CombinationSumsFit, ValueSumsFit};
 ghost use Rattle.nz_sweep.specs.Cuts.{IsCut, IsEquationStep, IsCongruenceStep};
 ghost use Rattle.nz_sweep.specs.Duals.{unit_coordinate};
-ghost use Rattle.nz_sweep.specs.Numbers.{SomeNumberLarge, IsCoordinateNumber, IsEquationNumber, IsCongruenceNumber};
+ghost use Rattle.nz_sweep.specs.Numbers.{SomeNumberLarge, IsConstraintNumber, IsCoordinateNumber, IsGeneratingNumber, IsEquationNumber, IsCongruenceNumber};
 ghost use Rattle.nz_sweep.specs.Rounds.{IsEquationMove, IsCongruenceMove};
 ghost use Rattle.nz_sweep.specs.Generating.{AreSetApart, IsEchelon};
-ghost use Rattle.nz_sweep.specs.GroupConstraints.{AreGroupConstraints};
+ghost use Rattle.nz_sweep.specs.GroupConstraints.{AreGroupConstraints, IsDualCoordinate};
 
 use crate::constraining::group_constraints;
 use crate::coordinates::{Coordinate, unit_coordinates};
@@ -64,13 +64,17 @@ impl<T: Scalar> Basis<T> {
 
     /// The lattice of the sums of the rows, by vectors in echelon form: column by column the entries
     /// of the rows left are cleared by the least one, as in Euclid's algorithm, and the row that is
-    /// left with an entry is set apart. Which numbers make it Range is not stated.
+    /// left with an entry is set apart. Range comes only where a number of the steps is above `HALF`:
+    /// an entry of a row at a moment of clearing, an entry of a dual form of the vectors at the end,
+    /// or the sum of the sizes of the products of such a form and a vector.
     pub fn of_generators(alloc: Global, width: usize, rows: &Rows<T>) -> Result<Basis<T>, Num>
         requires { Each (HasWidth width) rows.now }
         ensures width { IfOk result (λ b. b.width ≡ width) }
         ensures same { IfOk result (λ b. (x : Vector) → IsInGroup width rows.now x ↔ IsInGroup width b.vectors x) }
         ensures echelon { IfOk result (λ b. IsEchelon b.vectors) }
         ensures steps { IfOk result (λ b. AreSetApart width 0 rows.now b.vectors) }
+        ensures coordinates { IfOk result (λ b. AllZip (IsDualCoordinate width b.vectors) b.vectors b.coordinates) }
+        ensures cause { IfErr result (λ e. e ≡ Num.Range → SomeNumberLarge T.HALF (IsGeneratingNumber width rows.now)) }
     {
         match generated(alloc, width, rows) {
             Ok(generated) => Ok(Basis {
@@ -92,10 +96,11 @@ impl<T: Scalar> Basis<T> {
 
     /// Constraints that exactly the vectors of the lattice meet: the equations of its vectors, and
     /// then for each vector, where it is not 1, the value of its dual form there as a modulus of that
-    /// form. Which numbers make it Range is not stated.
+    /// form. Range comes only where an entry of an equation or a dual form, or the sum of the sizes of
+    /// the products of such a form and a vector, is above `HALF`.
     pub fn lattice_constraints(&self, alloc: Global) -> Result<Constraints<T>, Num>
         requires { IsEchelon self.now.vectors }
-        ensures forms { IfOk result (AreGroupConstraints self.now.width self.now.vectors) }
+        ensures forms { MatchResult result (AreGroupConstraints self.now.width self.now.vectors) (λ e. e ≡ Num.Range → SomeNumberLarge T.HALF (IsConstraintNumber self.now.width self.now.vectors)) }
         ensures members { IfOk result (λ c. (x : Vector) → HasWidth self.now.width x → MeetsAll c x ↔ IsInGroup self.now.width self.now.vectors x) }
     {
         group_constraints(alloc, self.width, self.base.as_slice())

@@ -1,17 +1,20 @@
 // Forms of a base in echelon form, from the bottom: a form begins at a column, and is cleared of
-// one vector after the other, the last first. It stays primitive, and no number is formed that is
-// not in the forms of the answer or a value of them.
-ghost use Rattle.std.specs.Prelude.{◌≡◌, ◌≢◌, ◌⊎◌, ◌↔◌, ◌<◌, ◌≤◌, ◌*ℤ◌, ◌<ℤ◌, ℕ, ℤ, List, pos, negsuc, length, IfOk, IfSome, IsTrue};
+// one vector after the other, the last first. It stays primitive, so up to the columns at which it
+// is 0 so far it goes into the form at the end: no entry and no value is larger than one of that.
+ghost use Rattle.std.specs.Prelude.{◌≡◌, ◌≢◌, ◌⊎◌, ◌↔◌, ◌<◌, ◌≤◌, ◌*ℤ◌, ◌<ℤ◌, ℕ, ℤ, List, pos, negsuc, length, unsigned_abs, Contains, IfOk, IsTrue, MatchOption, MatchResult};
 ghost use Rattle.std.specs.List.{AllByRecursion as Each, AllZip};
 ghost use Rattle.nz_spec.specs.Vectors.{entry, scaled, HasWidth, IsMultipleOf};
 ghost use Rattle.nz_spec.specs.Forms.{LeadsAt};
 ghost use Rattle.nz_linear.specs.Echelon.{unit_at};
+ghost use Rattle.nz_range.specs.Measures.{pair_measure};
 ghost use Rattle.nz_sweep.specs.Duals.{vector_at};
 ghost use Rattle.nz_sweep.specs.Generating.{AreLeading};
 ghost use Rattle.nz_sweep.specs.Bottom.{column_at, AreLeastFactors, IsClearedOf, IsFromBottom, IsDualAt, AreDualEach};
+ghost use Rattle.nz_sweep.specs.Numbers.{SomeNumberLarge, IsDualNumber, IsBottomNumber, IsBottomStepNumber};
 
 use crate::coordinates::Coordinate;
 use crate::cutting::times;
+use crate::floors::floor;
 use crate::terms::is_below_zero;
 use crate::units::unit;
 use nz_vec::{NoMemory, Num, Row, Scalar};
@@ -60,7 +63,7 @@ pub(crate) fn dual_coordinates<T: Scalar>(
 ) -> Result<Vec<Coordinate<T>>, Num>
     requires widths { Each (HasWidth width) base.now }
     requires leading { AreLeading columns.now base.now }
-    ensures { IfOk result (λ v. AreDualEach width columns.now base.now v.items) }
+    ensures { MatchResult result (λ v. AreDualEach width columns.now base.now v.items) (λ e. e ≡ Num.Range → SomeNumberLarge T.HALF (IsDualNumber width base.now)) }
 {
     let mut list = match Vec::with_capacity(alloc, base.len()) {
         Ok(list) => list,
@@ -85,7 +88,7 @@ fn dual_coordinate<T: Scalar>(
     requires widths { Each (HasWidth width) base.now }
     requires leading { AreLeading columns.now base.now }
     requires inside { place < length base.now }
-    ensures { IfOk result (IsDualAt width columns.now base.now place) }
+    ensures { MatchResult result (IsDualAt width columns.now base.now place) (λ e. e ≡ Num.Range → SomeNumberLarge T.HALF (IsDualNumber width base.now)) }
 {
     let column = columns[place];
     let sign = sign_of(base[place].at(column));
@@ -128,7 +131,7 @@ pub(crate) fn from_bottom<T: Scalar>(
     requires end { end ≤ length base.now }
     requires before { (i : ℕ) → i < end → column_at columns.now i < column }
     requires sign { (T.integer sign ≡ pos 1) ⊎ (T.integer sign ≡ negsuc 0) }
-    ensures { IfOk result (IsFromBottom width columns.now base.now column (T.integer sign) 0 end) }
+    ensures { MatchResult result (IsFromBottom width columns.now base.now column (T.integer sign) 0 end) (λ e. e ≡ Num.Range → SomeNumberLarge T.HALF (IsBottomNumber width columns.now base.now column (T.integer sign) end)) }
 {
     let mut form = match start(alloc, width, column, sign) {
         Ok(form) => form,
@@ -147,7 +150,8 @@ pub(crate) fn from_bottom<T: Scalar>(
 
 // The unit form of the column, or its opposite.
 fn start<T: Scalar>(alloc: Global, width: usize, column: usize, sign: T) -> Result<Row<T>, Num>
-    ensures { IfOk result (λ f. f ≡ scaled (T.integer sign) (unit_at width column)) }
+    requires { (T.integer sign ≡ pos 1) ⊎ (T.integer sign ≡ negsuc 0) }
+    ensures { MatchResult result (λ f. f ≡ scaled (T.integer sign) (unit_at width column)) (λ e. ¬ (e ≡ Num.Range)) }
 {
     match unit(alloc, width, column) {
         Ok(unit) => times(alloc, sign, &unit),
@@ -169,7 +173,7 @@ fn cleared_at<T: Scalar>(
     requires inside { place < length base.now }
     requires form { HasWidth width form.now }
     requires zero { entry form.now (column_at columns.now place) ≡ pos 0 }
-    ensures { IfOk result (IsClearedOf width (column_at columns.now place) (vector_at base.now place) form.now) }
+    ensures { MatchResult result (IsClearedOf width (column_at columns.now place) (vector_at base.now place) form.now) (λ e. e ≡ Num.Range → SomeNumberLarge T.HALF (IsBottomStepNumber (column_at columns.now place) (vector_at base.now place) form.now)) }
 {
     cleared(alloc, width, form, &base[place], columns[place])
 }
@@ -188,7 +192,7 @@ fn cleared<T: Scalar>(
     requires inside { column < width }
     requires nonzero { entry vector.now column ≢ pos 0 }
     requires zero { entry form.now column ≡ pos 0 }
-    ensures { IfOk result (IsClearedOf width column vector.now form.now) }
+    ensures { MatchResult result (IsClearedOf width column vector.now form.now) (λ e. e ≡ Num.Range → SomeNumberLarge T.HALF (IsBottomStepNumber column vector.now form.now)) }
 {
     let pivot = vector.at(column);
     let value = match form.dot(vector) {
@@ -215,7 +219,7 @@ struct Factors<T: Scalar> {
 // The least factors that make a sum of the value and the pivot 0.
 fn least_factors<T: Scalar>(value: T, pivot: T) -> Option<Factors<T>>
     requires { T.integer pivot ≢ pos 0 }
-    ensures { IfSome result (λ f. AreLeastFactors (T.integer value) (T.integer pivot) (T.integer f.form) (T.integer f.unit)) }
+    ensures { MatchOption result ((T.HALF <ℤ pos (unsigned_abs (T.integer value))) ⊎ (T.HALF <ℤ pos (unsigned_abs (T.integer pivot)))) (λ f. AreLeastFactors (T.integer value) (T.integer pivot) (T.integer f.form) (T.integer f.unit) × (unsigned_abs (T.integer f.form) ≤ unsigned_abs (T.integer pivot)) × (unsigned_abs (T.integer f.unit) ≤ unsigned_abs (T.integer value))) }
 {
     let common = match value.gcd(pivot) {
         Some(common) => common,
@@ -240,10 +244,8 @@ fn least_factors<T: Scalar>(value: T, pivot: T) -> Option<Factors<T>>
 fn signed_quotient<T: Scalar>(value: T, by: T, sign: T) -> Option<T>
     requires positive { pos 0 <ℤ T.integer by }
     requires divides { IsMultipleOf (T.integer by) (T.integer value) }
-    ensures { IfSome result (λ q. T.integer by *ℤ T.integer q ≡ T.integer sign *ℤ T.integer value) }
+    requires sign { (T.integer sign ≡ pos 1) ⊎ (T.integer sign ≡ negsuc 0) }
+    ensures { MatchOption result (T.HALF <ℤ pos (unsigned_abs (T.integer value))) (λ q. T.integer by *ℤ T.integer q ≡ T.integer sign *ℤ T.integer value) }
 {
-    match value.floor_div(by) {
-        Some(quotient) => sign.try_mul(quotient),
-        None => None,
-    }
+    sign.try_mul(floor(value, by))
 }

@@ -1,5 +1,5 @@
 // The constraints of the group of a base in echelon form.
-ghost use Rattle.std.specs.Prelude.{◌≡◌, ◌⊎◌, ◌↔◌, ◌+◌, ◌<◌, ◌<ℤ◌, ◌++◌, ◌∷◌, [], ℕ, List, pos, map, length, Contains, IfOk, IsTrue, MatchOption};
+ghost use Rattle.std.specs.Prelude.{◌≡◌, ◌⊎◌, ◌↔◌, ◌+◌, ◌<◌, ◌<ℤ◌, ◌++◌, ◌∷◌, [], ℕ, List, pos, map, length, Contains, IfOk, IsTrue, MatchOption, MatchResult};
 ghost use Rattle.std.specs.List.{AllByRecursion as Each};
 ghost use Rattle.nz_spec.specs.Vectors.{Vector, HasWidth};
 ghost use Rattle.nz_spec.specs.Sums.{IsInGroup};
@@ -8,6 +8,7 @@ ghost use Rattle.nz_spec.specs.Systems.{Congruence};
 ghost use Rattle.nz_spec.specs.Constraints.{MeetsAll, constraint_of};
 ghost use Rattle.nz_sweep.specs.Duals.{Coordinate as FormAndDivisor};
 ghost use Rattle.nz_sweep.specs.Generating.{AreLeading, IsEchelon};
+ghost use Rattle.nz_sweep.specs.Numbers.{SomeNumberLarge, IsConstraintNumber};
 ghost use Rattle.nz_sweep.specs.GroupConstraints.{congruence_of, AreAboveOne, AreGroupConstraints, IsBetween, AreEquationsBefore};
 
 use crate::bottom::{dual_coordinates, from_bottom, leading_columns};
@@ -23,7 +24,7 @@ pub(crate) fn group_constraints<T: Scalar>(
 ) -> Result<Constraints<T>, Num>
     requires widths { Each (HasWidth width) base.now }
     requires echelon { IsEchelon base.now }
-    ensures forms { IfOk result (AreGroupConstraints width base.now) }
+    ensures forms { MatchResult result (AreGroupConstraints width base.now) (λ e. e ≡ Num.Range → SomeNumberLarge T.HALF (IsConstraintNumber width base.now)) }
     ensures members { IfOk result (λ c. (x : Vector) → HasWidth width x → MeetsAll c x ↔ IsInGroup width base.now x) }
 {
     let columns = match leading_columns(alloc, base) {
@@ -53,7 +54,7 @@ fn equations<T: Scalar>(
 ) -> Result<Constraints<T>, Num>
     requires widths { Each (HasWidth width) base.now }
     requires leading { AreLeading columns.now base.now }
-    ensures { IfOk result (AreEquationsBefore width columns.now base.now width) }
+    ensures { MatchResult result (AreEquationsBefore width columns.now base.now width) (λ e. e ≡ Num.Range → SomeNumberLarge T.HALF (IsConstraintNumber width base.now)) }
 {
     let mut list = Constraints::new(alloc);
     for column in 0..width {
@@ -78,7 +79,7 @@ fn with_equation<T: Scalar>(
     requires leading { AreLeading columns.now base.now }
     requires inside { column < width }
     requires so_far { AreEquationsBefore width columns.now base.now column list }
-    ensures { IfOk result (AreEquationsBefore width columns.now base.now (column + 1)) }
+    ensures { MatchResult result (AreEquationsBefore width columns.now base.now (column + 1)) (λ e. e ≡ Num.Range → SomeNumberLarge T.HALF (IsConstraintNumber width base.now)) }
 {
     let before = match leading_before(columns, column) {
         Some(before) => before,

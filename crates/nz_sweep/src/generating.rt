@@ -1,10 +1,12 @@
 // A base of the group that rows generate, in echelon form.
-ghost use Rattle.std.specs.Prelude.{◌≡◌, ◌+◌, ◌<◌, List, ◌++◌, length, IfOk};
-ghost use Rattle.std.specs.List.{AllByRecursion as Each};
+ghost use Rattle.std.specs.Prelude.{◌≡◌, ◌+◌, ◌<◌, List, ◌++◌, length, ℤ, IfOk, MatchResult};
+ghost use Rattle.std.specs.List.{AllByRecursion as Each, AllZip};
 ghost use Rattle.nz_spec.specs.Vectors.{Vector, HasWidth};
-ghost use Rattle.nz_sweep.specs.Clearing.{values_of, vectors_of, IsPivot, IsCleared};
+ghost use Rattle.nz_sweep.specs.Clearing.{Valued as ValuedVector, values_of, vectors_of, IsPivot, AreRounds, IsCleared};
 ghost use Rattle.nz_sweep.specs.Duals.{AreDual};
 ghost use Rattle.nz_sweep.specs.Generating.{AreSetApart};
+ghost use Rattle.nz_sweep.specs.GroupConstraints.{IsDualCoordinate};
+ghost use Rattle.nz_sweep.specs.Numbers.{SomeNumberLarge, IsOfValued, IsColumnNumber, IsGeneratingNumber};
 
 use crate::bottom::{dual_coordinates, leading_columns};
 use crate::clearing::reduced_all;
@@ -37,8 +39,9 @@ pub(crate) fn generated<T: Scalar>(
     rows: &Rows<T>,
 ) -> Result<DualBase<T>, Num>
     requires { Each (HasWidth width) rows.now }
-    ensures apart { IfOk result (λ b. AreSetApart width 0 rows.now b.base.items) }
+    ensures apart { MatchResult result (λ b. AreSetApart width 0 rows.now b.base.items) (λ e. e ≡ Num.Range → SomeNumberLarge T.HALF (IsGeneratingNumber width rows.now)) }
     ensures dual { IfOk result (λ b. AreDual width b.base.items b.coordinates.items) }
+    ensures forms { IfOk result (λ b. AllZip (IsDualCoordinate width b.base.items) b.base.items b.coordinates.items) }
 {
     let list = match listed(alloc, rows) {
         Ok(list) => list,
@@ -77,7 +80,7 @@ fn listed<T: Scalar>(alloc: Global, rows: &Rows<T>) -> Result<Vec<Row<T>>, NoMem
 // The rows that are set apart column by column.
 fn set_apart<T: Scalar>(alloc: Global, width: usize, rows: Vec<Row<T>>) -> Result<Vec<Row<T>>, Num>
     requires { Each (HasWidth width) rows.items }
-    ensures { IfOk result (λ b. AreSetApart width 0 rows.items b.items) }
+    ensures { MatchResult result (λ b. AreSetApart width 0 rows.items b.items) (λ e. e ≡ Num.Range → SomeNumberLarge T.HALF (IsColumnNumber width 0 rows.items)) }
 {
     let mut apart = Apart {
         base: Vec::new(alloc),
@@ -103,6 +106,7 @@ fn set_one_apart<T: Scalar>(
     requires widths { Each (HasWidth width) apart.left.items }
     ensures widths { IfOk result (λ a. Each (HasWidth width) a.left.items) }
     ensures apart { IfOk result (λ a. (rest : List Vector) → AreSetApart width (column + 1) a.left.items rest → (more : List Vector) × AreSetApart width column apart.left.items more × (apart.base.items ++ more ≡ a.base.items ++ rest)) }
+    ensures numbers { MatchResult result (λ a. (n : ℤ) → IsColumnNumber width (column + 1) a.left.items n → IsColumnNumber width column apart.left.items n) (λ e. e ≡ Num.Range → SomeNumberLarge T.HALF (IsColumnNumber width column apart.left.items)) }
 {
     let Apart { mut base, left } = apart;
     let form = match unit(alloc, width, column) {
@@ -141,7 +145,7 @@ fn clear_rows<T: Scalar>(
 ) -> Result<ClearedRows<T>, Num>
     requires pivot { IsPivot (values_of list.items) (length list.items) place }
     requires widths { Each (HasWidth width) (vectors_of list.items) }
-    ensures { IfOk result (λ c. IsCleared list.items c.place c.own c.others.items) }
+    ensures { MatchResult result (λ c. IsCleared list.items c.place c.own c.others.items) (λ e. e ≡ Num.Range → SomeNumberLarge T.HALF (λ n. (moment : List ValuedVector) × AreRounds list.items moment × IsOfValued moment n)) }
 {
     let mut list = list;
     let mut place = place;

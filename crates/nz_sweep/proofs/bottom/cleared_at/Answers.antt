@@ -1,7 +1,10 @@
-use Rattle.std.proofs.Common.{[], length, sym, ap, ◌∙◌, subst, arith}
-use Rattle.std.specs.Prelude.{IfOk}
+use Rattle.std.proofs.Common.{◌≡◌, [], length, sym, ap, ◌∙◌, subst, arith}
+use Rattle.std.specs.Prelude.{MatchResult}
 use Rattle.nz_spec.specs.Vectors.{Vector, entry, HasWidth}
+use Rattle.nz_vec.specs.declared.answers.Num.{Num}
+use Rattle.nz_vec.specs.declared.answers.Num.TheVariants.{Range}
 use Rattle.nz_sweep.specs.Bottom.{column_at, IsClearedOf}
+use Rattle.nz_sweep.specs.Numbers.{SomeNumberLarge, IsBottomStepNumber}
 use Rattle.nz_sweep.proofs.BaseLemmas.{each_at}
 use Rattle.nz_sweep.proofs.BottomLemmas.{columns_length, column_within, lead_nonzero, vector_is}
 use Rattle.nz_sweep.proofs.bottom.cleared_at.Goals as goal
@@ -22,4 +25,6 @@ pub cleared-requires-clause-zero : goal.cleared-requires-clause-zero
 cleared-requires-clause-zero g c = c.requires.zero
 
 pub returns : goal.returns
-returns g c = subst (λ (v : Vector). IfOk c.cleared.result (IsClearedOf c.args.width (column_at c.args.columns.now c.args.place) v c.args.form.now)) (vector_is c.args.base.now c.args.place c.index-base-place.result c.requires.inside c.index-base-place.is) c.cleared.ensures
+returns g c =
+    let k = column_at c.args.columns.now c.args.place in
+    subst (λ (v : Vector). MatchResult c.cleared.result (IsClearedOf c.args.width k v c.args.form.now) (λ (e : Num). e ≡ Range → SomeNumberLarge g.T.Scalar.HALF (IsBottomStepNumber k v c.args.form.now))) (vector_is c.args.base.now c.args.place c.index-base-place.result c.requires.inside c.index-base-place.is) c.cleared.ensures

@@ -1,7 +1,8 @@
-use Rattle.std.proofs.Common.{◌≡◌, ◌-◌, suc, sym, subst, arith}
+use Rattle.std.proofs.Common.{◌≡◌, ◌-◌, ℕ, suc, sym, subst, arith}
 use Rattle.nz_spec.specs.Vectors.{Vector}
 use Rattle.nz_sweep.specs.Bottom.{IsFromBottom}
 use Rattle.nz_sweep.proofs.BottomLemmas.{bottom_start, zero_before_step, step_before}
+use Rattle.nz_sweep.proofs.BottomCauses.{step_large}
 use Rattle.nz_sweep.proofs.bottom.from_bottom.Goals as goal
 
 pub vectors-init : goal.vectors-init
@@ -34,6 +35,16 @@ vectors-preserved g c =
       omega (arith, low),
       step_before c.args.width c.args.columns.now c.args.base.now c.args.column (g.T.Scalar.integer c.args.sign) c.vectors.first (c.vectors.first - 1) c.args.end c.vectors.form _ s c.requires.widths c.requires.leading c.requires.end c.vectors.invariant.0 c.requires.before c.vectors.invariant.1 c.in-Ok-cleared_at.ensures,
     )
+
+pub returns-in-Err : goal.returns-in-Err
+returns-in-Err g c = λ e. absurd (c.in-Err.ensures e)
+
+pub returns-in-Err-cleared_at : goal.returns-in-Err-cleared_at
+returns-in-Err-cleared_at g c =
+    let some = c.vectors-test.true in
+    let low = c.vectors.invariant.0 in
+    let s : c.vectors.first ≡ suc (c.vectors.first - 1) = omega (arith, some) in
+    λ e. step_large g.T.Scalar.HALF c.args.width c.args.columns.now c.args.base.now c.requires.widths c.requires.leading c.args.column (g.T.Scalar.integer c.args.sign) c.args.end c.requires.end c.requires.before (c.vectors.first - 1) c.vectors.form (omega (arith, some, low)) (subst (λ (k : ℕ). IsFromBottom c.args.width c.args.columns.now c.args.base.now c.args.column (g.T.Scalar.integer c.args.sign) k c.args.end c.vectors.form) s c.vectors.invariant.1) (c.in-Err-cleared_at.ensures e)
 
 pub returns : goal.returns
 returns g c =

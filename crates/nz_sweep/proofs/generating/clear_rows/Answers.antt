@@ -4,6 +4,7 @@ use Rattle.nz_spec.specs.Vectors.{HasWidth}
 use Rattle.nz_sweep.specs.Clearing.{Valued, vectors_of, values_of, none, AreZero, IsReduced, IsPivot}
 use Rattle.nz_sweep.proofs.ClearingLemmas.{width_at, rest_widths}
 use Rattle.nz_sweep.proofs.RoundLemmas.{AtRound, place_within, rounds_go_on, rounds_end, not_all_zero, round_less, round_widths}
+use Rattle.nz_sweep.proofs.ClearCauses.{moment_large}
 use Rattle.nz_sweep.proofs.generating.clear_rows.Goals as goal
 
 pub rounds-init : goal.rounds-init
@@ -44,3 +45,6 @@ rounds-preserved g c =
       subst (λ (t : List Valued). IsPivot (values_of t) (length t) c.in-Some.next) c.as_slice-in-rounds-2.ensures.value c.in-Some.ensures,
       round_widths c.args.width c.args.list.items c.rounds.list.items c.remove-own.new.self.items c.in-Ok.others.items c.insert.new.self.items c.rounds.place c.remove-own.result r c.in-Ok-insert.ensures.items c.rounds.invariant.2,
     )
+
+pub returns-in-Err : goal.returns-in-Err
+returns-in-Err g c = λ e. moment_large g.T.Scalar.HALF c.args.list.items c.rounds.list.items c.rounds.place c.remove-own.result c.as_slice.result.now c.rounds.invariant.0 c.rounds.invariant.1.within c.remove-own.ensures.value (c.as_slice.ensures.value ∙ c.remove-own.ensures.items) (c.in-Err.ensures e)
