@@ -12,22 +12,25 @@ use std::alloc::Global;
 use std::process::Abort;
 use std::test::Fail;
 
-// Rays of three entries, how many stages are told before, at which call the watch says stop (0 for
+// Rays of this width, how many stages are told before, at which call the watch says stop (0 for
 // never), and what is wanted: the simplices, or the stage of the stop; and the pairs told.
 #[derive(Clone, Copy)]
 struct Case {
-    rays: &'static [[i64; 3]],
+    width: usize,
+    rays: &'static [&'static [i64]],
     told_before: u64,
     stop_at: u64,
-    simplices: &'static [[usize; 3]],
+    simplices: &'static [&'static [usize]],
     stopped: u64,
     told: &'static [(u64, u64)],
 }
 
-// No ray; a square cone; it with a stop at each stage, and with the first stage told before; the three
-// columns of magic squares that determine them; one simplex; a cone over a pentagon.
-const CASES: [Case; 8] = [
+// No ray; one simplex in the plane; a square cone; it with a stop at each stage, and with the first
+// stage told before; the three columns of magic squares that determine them; one simplex; a cone over
+// a pentagon.
+const CASES: [Case; 9] = [
     Case {
+        width: 0,
         rays: &[],
         told_before: 0,
         stop_at: 1,
@@ -36,15 +39,26 @@ const CASES: [Case; 8] = [
         told: &[],
     },
     Case {
-        rays: &[[0, 0, 1], [0, 1, 1], [1, 0, 1], [1, 1, 1]],
+        width: 2,
+        rays: &[&[1, 3], &[2, 1]],
         told_before: 0,
         stop_at: 0,
-        simplices: &[[0, 1, 2], [1, 2, 3]],
+        simplices: &[&[0, 1]],
+        stopped: 0,
+        told: &[(2, 2)],
+    },
+    Case {
+        width: 3,
+        rays: &[&[0, 0, 1], &[0, 1, 1], &[1, 0, 1], &[1, 1, 1]],
+        told_before: 0,
+        stop_at: 0,
+        simplices: &[&[0, 1, 2], &[1, 2, 3]],
         stopped: 0,
         told: &[(3, 3), (4, 4)],
     },
     Case {
-        rays: &[[0, 0, 1], [0, 1, 1], [1, 0, 1], [1, 1, 1]],
+        width: 3,
+        rays: &[&[0, 0, 1], &[0, 1, 1], &[1, 0, 1], &[1, 1, 1]],
         told_before: 0,
         stop_at: 1,
         simplices: &[],
@@ -52,7 +66,8 @@ const CASES: [Case; 8] = [
         told: &[(3, 3)],
     },
     Case {
-        rays: &[[0, 0, 1], [0, 1, 1], [1, 0, 1], [1, 1, 1]],
+        width: 3,
+        rays: &[&[0, 0, 1], &[0, 1, 1], &[1, 0, 1], &[1, 1, 1]],
         told_before: 0,
         stop_at: 2,
         simplices: &[],
@@ -60,57 +75,68 @@ const CASES: [Case; 8] = [
         told: &[(3, 3), (4, 4)],
     },
     Case {
-        rays: &[[0, 0, 1], [0, 1, 1], [1, 0, 1], [1, 1, 1]],
+        width: 3,
+        rays: &[&[0, 0, 1], &[0, 1, 1], &[1, 0, 1], &[1, 1, 1]],
         told_before: 1,
         stop_at: 0,
-        simplices: &[[0, 1, 2], [1, 2, 3]],
+        simplices: &[&[0, 1, 2], &[1, 2, 3]],
         stopped: 0,
         told: &[(4, 4)],
     },
     Case {
-        rays: &[[0, 2, 1], [1, 0, 2], [1, 2, 0], [2, 0, 1]],
+        width: 3,
+        rays: &[&[0, 2, 1], &[1, 0, 2], &[1, 2, 0], &[2, 0, 1]],
         told_before: 0,
         stop_at: 0,
-        simplices: &[[0, 1, 2], [1, 2, 3]],
+        simplices: &[&[0, 1, 2], &[1, 2, 3]],
         stopped: 0,
         told: &[(3, 3), (4, 4)],
     },
     Case {
-        rays: &[[1, 3, 0], [2, 1, 0], [0, 0, 1]],
+        width: 3,
+        rays: &[&[1, 3, 0], &[2, 1, 0], &[0, 0, 1]],
         told_before: 0,
         stop_at: 0,
-        simplices: &[[0, 1, 2]],
+        simplices: &[&[0, 1, 2]],
         stopped: 0,
         told: &[(3, 3)],
     },
     Case {
-        rays: &[[0, 0, 1], [2, 0, 1], [0, 2, 1], [3, 2, 1], [2, 3, 1]],
+        width: 3,
+        rays: &[&[0, 0, 1], &[2, 0, 1], &[0, 2, 1], &[3, 2, 1], &[2, 3, 1]],
         told_before: 0,
         stop_at: 0,
-        simplices: &[[0, 1, 2], [1, 2, 3], [2, 3, 4]],
+        simplices: &[&[0, 1, 2], &[1, 2, 3], &[2, 3, 4]],
         stopped: 0,
         told: &[(3, 3), (4, 4), (5, 5)],
     },
 ];
 
-fn row<T: Scalar>(alloc: Global, entries: [i64; 3]) -> Result<Row<T>, Fail>
-    ensures { IfOk result (λ r. length r ≡ 3) }
+fn row<T: Scalar>(alloc: Global, entries: &[i64]) -> Result<Row<T>, Fail>
+    ensures { IfOk result (λ r. length r ≡ length entries.now) }
 {
-    let [first, second, third] = entries;
-    let mut values = match Vec::with_capacity(alloc, 3) {
+    let mut values = match Vec::with_capacity(alloc, entries.len()) {
         Ok(values) => values,
         Err(_) => return Err(Fail::from("no memory")),
     };
-    values.push_reserved(T::of_i64(first));
-    values.push_reserved(T::of_i64(second));
-    values.push_reserved(T::of_i64(third));
+    for place in 0..entries.len() {
+        values.push_reserved(T::of_i64(entries[place]));
+    }
     Ok(Row::from_vec(values))
 }
 
-fn with<T: Scalar>(alloc: Global, mut rows: Rows<T>, entries: [i64; 3]) -> Result<Rows<T>, Fail>
-    requires { Each (HasWidth 3) rows }
-    ensures { IfOk result (Each (HasWidth 3)) }
+fn with<T: Scalar>(
+    alloc: Global,
+    mut rows: Rows<T>,
+    width: usize,
+    entries: &[i64],
+) -> Result<Rows<T>, Fail>
+    requires { Each (HasWidth width) rows }
+    ensures { IfOk result (Each (HasWidth width)) }
 {
+    if entries.len() != width {
+        return Err(Fail::from("another width"));
+    }
     match row(alloc, entries) {
         Ok(row) => match rows.push(row) {
             Ok(()) => Ok(rows),
@@ -120,12 +146,16 @@ fn with<T: Scalar>(alloc: Global, mut rows: Rows<T>, entries: [i64; 3]) -> Resul
     }
 }
 
-fn rows_of<T: Scalar>(alloc: Global, entries: &[[i64; 3]]) -> Result<Rows<T>, Fail>
-    ensures { IfOk result (Each (HasWidth 3)) }
+fn rows_of<T: Scalar>(
+    alloc: Global,
+    width: usize,
+    entries: &[&'static [i64]],
+) -> Result<Rows<T>, Fail>
+    ensures { IfOk result (Each (HasWidth width)) }
 {
     let mut rows = Rows::new(alloc);
     for i in 0..entries.len() {
-        rows = match with(alloc, rows, entries[i]) {
+        rows = match with(alloc, rows, width, entries[i]) {
             Ok(rows) => rows,
             Err(fail) => return Err(fail),
         };
@@ -144,12 +174,19 @@ fn watch_of(alloc: Global, stop_at: u64) -> Result<MemWatch, Fail> {
     }
 }
 
-fn names(places: &Places, wanted: [usize; 3]) -> bool {
-    let [first, second, third] = wanted;
-    places.len() == 3 && places.at(0) == first && places.at(1) == second && places.at(2) == third
+fn names(places: &Places, wanted: &[usize]) -> bool {
+    if places.len() != wanted.len() {
+        return false;
+    }
+    for i in 0..wanted.len() {
+        if i < places.len() && places.at(i) != wanted[i] {
+            return false;
+        }
+    }
+    true
 }
 
-fn lists(simplices: &PlaceLists, wanted: &[[usize; 3]]) -> bool {
+fn lists(simplices: &PlaceLists, wanted: &[&'static [usize]]) -> bool {
     if simplices.len() != wanted.len() {
         return false;
     }
@@ -209,11 +246,8 @@ fn agrees_if_full<T: Scalar>(
 }
 
 fn is_placed<T: Scalar>(alloc: Global, case: Case) -> Result<bool, Fail> {
-    if case.rays.len() == 0 {
-        return agrees_if_full(alloc, &Rows::<T>::new(alloc), 0, case);
-    }
-    match rows_of::<T>(alloc, case.rays) {
-        Ok(rays) => agrees_if_full(alloc, &rays, 3, case),
+    match rows_of::<T>(alloc, case.width, case.rays) {
+        Ok(rays) => agrees_if_full(alloc, &rays, case.width, case),
         Err(fail) => Err(fail),
     }
 }

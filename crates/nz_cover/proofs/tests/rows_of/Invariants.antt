@@ -3,4 +3,4 @@ use Rattle.nz_spec.specs.Vectors.{HasWidth}
 use Rattle.nz_cover.proofs.tests.rows_of.Given as goal
 
 abbrev pub invariant-loop-i : goal.invariant-loop-i
-invariant-loop-i g l = Each (HasWidth 3) l.rows
+invariant-loop-i g l = Each (HasWidth l.width) l.rows
