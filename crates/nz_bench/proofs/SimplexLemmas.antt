@@ -14,30 +14,11 @@ use Rattle.nz_linear.proofs.Dependence.{complete_length}
 use Rattle.nz_pointed.specs.Pointed.{paired, IsNew, IsSimplexOf}
 use Rattle.nz_classes.specs.Classes.{IsPoint}
 use Rattle.nz_classes.specs.Walks.{paired as paired_sides, IsFullSimplex}
-use Rattle.nz_cover.specs.Placing.{ArePlaceable}
+use Rattle.nz_dual.proofs.FirstStageLemmas.{own_width}
 use Rattle.nz_reducer.specs.Reducers.{AreSeparated}
 
-same_pairs : (fs vs : List Vector) → paired fs vs ≡ paired_sides fs vs
-same_pairs [] vs = refl
-same_pairs (f ∷ fs) [] = refl
-same_pairs (f ∷ fs) (v ∷ vs) = ap (λ t. pair_of f v ∷ t) (same_pairs fs vs)
-
-count : (rows : List Vector) (ps : List ℕ) (fs : List Vector) → length fs ≡ length ps → length (paired (vectors_at rows ps) fs) ≡ length ps
-count rows [] fs l = refl
-count rows (p ∷ ps) [] l = absurd (omega arith)
-count rows (p ∷ ps) (f ∷ fs) l = ap suc (count rows ps fs (omega arith))
-
 pub simplex_size : (w : ℕ) (rows : List Vector) (places : List ℕ) (rays : List Vector) → IsSimplexOf w rows places rays → length places ≡ w
-simplex_size w rows places rays s = sym (count rows places rays s.one_each) ∙ complete_length w (paired (vectors_at rows places) rays) s.dual s.only_zero
-
-pub full : (w : ℕ) (rows : List Vector) (places : List ℕ) (rays : List Vector) → IsSimplexOf w rows places rays → IsFullSimplex rays (vectors_at rows places)
-full w rows places rays s =
-    let size : w ≡ length rays = sym (simplex_size w rows places rays s) ∙ sym s.one_each in
-    record {
-      one_each = length-map places _ ∙ sym s.one_each;
-      dual = subst (λ n. IsDualPair n (paired_sides (vectors_at rows places) rays)) size (subst (IsDualPair w) (same_pairs (vectors_at rows places) rays) s.dual);
-      only_zero = subst (λ n. OnlyZero n (paired_sides (vectors_at rows places) rays)) size (subst (OnlyZero w) (same_pairs (vectors_at rows places) rays) s.only_zero);
-    }
+simplex_size w rows places rays s = sym (own_width w rows rays places s)
 
 pub within : (w : ℕ) (rows : List Vector) (places : List ℕ) (rays : List Vector) → IsSimplexOf w rows places rays → Each (λ p. p < length rows) places
 within w rows places rays s = Each-from_contains _ places (λ p c. (Each-contains (IsNew w rows) places p s.first.only c).within)
@@ -71,21 +52,3 @@ chosen_more rows places i place row copy done more l p r c d m =
 -- the points have the width of the rows
 pub points_wide : (w : ℕ) (rows : List Vector) (places : List ℕ) (rays points : List Vector) → IsSimplexOf w rows places rays → Each (IsPoint (length rays) rays) points → Each (HasWidth w) points
 points_wide w rows places rays points s e = Each-from_contains _ points (λ x c. (Each-contains (IsPoint (length rays) rays) points x e c).0 ∙ s.one_each ∙ simplex_size w rows places rays s)
-
-chosen_are_rows : (rows : List Vector) (places : List ℕ) (rays : List Vector) → Each (λ p. p < length rows) places → Each (λ (p : Pair). Contains rows p.form) (paired (vectors_at rows places) rays)
-chosen_are_rows rows [] rays inside = tt
-chosen_are_rows rows (p ∷ places) [] inside = tt
-chosen_are_rows rows (p ∷ places) (v ∷ rays) inside = (contains_get p rows inside.0, chosen_are_rows rows places rays inside.1)
-
--- the rank of the rows is their width
-pub placeable : (w : ℕ) (rows : List Vector) (places : List ℕ) (rays : List Vector) → IsSimplexOf w rows places rays → Each (HasWidth w) rows → ArePlaceable w rows
-placeable w rows places rays s wide =
-    let ps = paired (vectors_at rows places) rays in
-    let whole : ps ++ [] ≡ ps = append-nil ps in
-    let state : IsState w rows ps [] = record {
-      pair = subst (IsDualPair w) (sym whole) s.dual;
-      only_zero = subst (OnlyZero w) (sym whole) s.only_zero;
-      from_seen = chosen_are_rows rows places rays (within w rows places rays s);
-      free_vanish = tt;
-    } in
-    record { widths = wide; full = subst (HasRank w (Contains rows)) (complete_length w ps s.dual s.only_zero) (rank_of_state w rows ps [] wide state) }
