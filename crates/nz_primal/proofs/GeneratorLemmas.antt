@@ -1,11 +1,12 @@
 -- The extreme rays of a simplex's rows, in another order, are its extreme generators.
-use Rattle.std.proofs.Common.{◌≡◌, ℕ, ◌<◌, List, length, pos, ◌≤ℤ◌, Contains}
+use Rattle.std.proofs.Common.{◌≡◌, ℕ, ◌<◌, List, length, pos, ◌≤ℤ◌, Contains, sym, subst}
 use Rattle.std.specs.List.{AllByRecursion as Each}
-use Rattle.nz_spec.specs.Vectors.{Vector, dot, values_at, HasWidth}
+use Rattle.nz_spec.specs.Vectors.{Vector, dot, values_at, HasWidth, IsZero}
 use Rattle.nz_spec.specs.Order.{IsListOf}
 use Rattle.nz_spec.specs.Monoids.{IsExtreme}
 use Rattle.nz_spec.specs.Covers.{vectors_at}
 use Rattle.nz_spec.proofs.ListLaws.{Each-contains, Each-from_contains, IsLexBefore-asymmetric}
+use Rattle.nz_spec.proofs.VectorLaws.{IsZero-zero_vector}
 use Rattle.nz_linear.specs.Cones.{IsInRows, Satisfies}
 use Rattle.nz_linear.specs.Extreme.{IsPointed}
 use Rattle.nz_linear.proofs.Lists.{each_map}
@@ -14,7 +15,7 @@ use Rattle.nz_order.proofs.SortLaws.{Pairwise-different, IsListOf-where}
 use Rattle.nz_pointed.specs.Pointed.{IsNew, IsSimplexOf}
 use Rattle.nz_rays.proofs.StartLemmas.{simplex_description}
 use Rattle.nz_facets.specs.Rays.{AreRaysOnce}
-use Rattle.nz_primal.specs.Lists.{IsBeforeBy, AreGenerators}
+use Rattle.nz_primal.specs.Lists.{AreSeparating, IsBeforeBy, AreGenerators}
 use Rattle.nz_primal.proofs.CoverCoordinates.{vectors_listed}
 
 pub pointed_of_simplex : (w : ℕ) (rows rays : List Vector) (places : List ℕ) → IsSimplexOf w rows places rays → IsPointed w rows
@@ -44,3 +45,6 @@ rays_reordered w rows order rays sorted once h =
       };
       once = Pairwise-different (IsBeforeBy order) (λ x l. IsLexBefore-asymmetric (values_at order x) (values_at order x) l l) sorted h.in_order;
     }
+
+pub separating_of_simplex : (w : ℕ) (rows rays : List Vector) (places : List ℕ) → Each (HasWidth w) rows → IsSimplexOf w rows places rays → AreSeparating w rows
+separating_of_simplex w rows rays places l s = record { widths = l; only_zero = λ x lx z. subst IsZero (sym (pointed_of_simplex w rows rays places s x lx z)) (IsZero-zero_vector w) }

@@ -13,3 +13,6 @@ mod running;
 mod second;
 
 pub use running::{PrimalLists, primal};
+
+#[cfg(test)]
+mod tests;
