@@ -73,47 +73,85 @@ asked_heading = codes " asked vectors:"
 
 pub headings_apart : (level : Bool) → AreApart (headings level) × Each (λ h. IsHeading h × IsApart h asked_heading) (headings level)
 headings_apart true = (
-    (refl,
+  (
+    refl,
     ((refl, refl), ((refl, refl), ((refl, refl), ((refl, refl), ((refl, refl), ((refl, refl), ((refl, refl), ((refl, refl), tt)))))))),
-    (refl,
-    ((refl, refl), ((refl, refl), ((refl, refl), ((refl, refl), ((refl, refl), ((refl, refl), ((refl, refl), tt))))))),
-    (refl,
-    ((refl, refl), ((refl, refl), ((refl, refl), ((refl, refl), ((refl, refl), ((refl, refl), tt)))))),
-    (refl,
-    ((refl, refl), ((refl, refl), ((refl, refl), ((refl, refl), ((refl, refl), tt))))),
-    (refl,
-    ((refl, refl), ((refl, refl), ((refl, refl), ((refl, refl), tt)))),
-    (refl,
-    ((refl, refl), ((refl, refl), ((refl, refl), tt))),
-    (refl,
-    ((refl, refl), ((refl, refl), tt)),
-    (refl,
-    ((refl, refl), tt),
-    (refl,
-    tt,
-    tt))))))))),
-    ((refl, (refl, refl)), ((refl, (refl, refl)), ((refl, (refl, refl)), ((refl, (refl, refl)), ((refl, (refl, refl)), ((refl, (refl, refl)), ((refl, (refl, refl)), ((refl, (refl, refl)), ((refl, (refl, refl)), tt))))))))))
+    (
+      refl,
+      ((refl, refl), ((refl, refl), ((refl, refl), ((refl, refl), ((refl, refl), ((refl, refl), ((refl, refl), tt))))))),
+      (
+        refl,
+        ((refl, refl), ((refl, refl), ((refl, refl), ((refl, refl), ((refl, refl), ((refl, refl), tt)))))),
+        (
+          refl,
+          ((refl, refl), ((refl, refl), ((refl, refl), ((refl, refl), ((refl, refl), tt))))),
+          (
+            refl,
+            ((refl, refl), ((refl, refl), ((refl, refl), ((refl, refl), tt)))),
+            (
+              refl,
+              ((refl, refl), ((refl, refl), ((refl, refl), tt))),
+              (
+                refl,
+                ((refl, refl), ((refl, refl), tt)),
+                (
+                  refl,
+                  ((refl, refl), tt),
+                  (
+                    refl,
+                    tt,
+                    tt,
+                  ),
+                ),
+              ),
+            ),
+          ),
+        ),
+      ),
+    ),
+  ),
+  ((refl, (refl, refl)), ((refl, (refl, refl)), ((refl, (refl, refl)), ((refl, (refl, refl)), ((refl, (refl, refl)), ((refl, (refl, refl)), ((refl, (refl, refl)), ((refl, (refl, refl)), ((refl, (refl, refl)), tt))))))))),
+)
 headings_apart false = (
-    (refl,
+  (
+    refl,
     ((refl, refl), ((refl, refl), ((refl, refl), ((refl, refl), ((refl, refl), ((refl, refl), ((refl, refl), ((refl, refl), tt)))))))),
-    (refl,
-    ((refl, refl), ((refl, refl), ((refl, refl), ((refl, refl), ((refl, refl), ((refl, refl), ((refl, refl), tt))))))),
-    (refl,
-    ((refl, refl), ((refl, refl), ((refl, refl), ((refl, refl), ((refl, refl), ((refl, refl), tt)))))),
-    (refl,
-    ((refl, refl), ((refl, refl), ((refl, refl), ((refl, refl), ((refl, refl), tt))))),
-    (refl,
-    ((refl, refl), ((refl, refl), ((refl, refl), ((refl, refl), tt)))),
-    (refl,
-    ((refl, refl), ((refl, refl), ((refl, refl), tt))),
-    (refl,
-    ((refl, refl), ((refl, refl), tt)),
-    (refl,
-    ((refl, refl), tt),
-    (refl,
-    tt,
-    tt))))))))),
-    ((refl, (refl, refl)), ((refl, (refl, refl)), ((refl, (refl, refl)), ((refl, (refl, refl)), ((refl, (refl, refl)), ((refl, (refl, refl)), ((refl, (refl, refl)), ((refl, (refl, refl)), ((refl, (refl, refl)), tt))))))))))
+    (
+      refl,
+      ((refl, refl), ((refl, refl), ((refl, refl), ((refl, refl), ((refl, refl), ((refl, refl), ((refl, refl), tt))))))),
+      (
+        refl,
+        ((refl, refl), ((refl, refl), ((refl, refl), ((refl, refl), ((refl, refl), ((refl, refl), tt)))))),
+        (
+          refl,
+          ((refl, refl), ((refl, refl), ((refl, refl), ((refl, refl), ((refl, refl), tt))))),
+          (
+            refl,
+            ((refl, refl), ((refl, refl), ((refl, refl), ((refl, refl), tt)))),
+            (
+              refl,
+              ((refl, refl), ((refl, refl), ((refl, refl), tt))),
+              (
+                refl,
+                ((refl, refl), ((refl, refl), tt)),
+                (
+                  refl,
+                  ((refl, refl), tt),
+                  (
+                    refl,
+                    tt,
+                    tt,
+                  ),
+                ),
+              ),
+            ),
+          ),
+        ),
+      ),
+    ),
+  ),
+  ((refl, (refl, refl)), ((refl, (refl, refl)), ((refl, (refl, refl)), ((refl, (refl, refl)), ((refl, (refl, refl)), ((refl, (refl, refl)), ((refl, (refl, refl)), ((refl, (refl, refl)), ((refl, (refl, refl)), tt))))))))),
+)
 
 asked_begins : (level : Bool) (xs : List Asked) → length xs < 2 ^ 64 → BeginsBlock asked_heading (asked_block level (Some xs))
 asked_begins level xs l = record {
@@ -153,8 +191,8 @@ pub text_sections : (o : OutcomeData) → text_of o ≡ head o.amb o.level ++ (s
 text_sections o =
     ap (λ (i : Text). head o.amb o.level ++ element_blocks o ++ cone_blocks o ++ (block_if_some (codes " extreme generators:") o.generators ++ i) ++ asked_block o.level o.asked) (simplices_same o.simplices)
     ∙ regrouped (head o.amb o.level) (block_if_some (codes " module generators:") o.modules) (block_if_some (hilbert_heading o.level) o.hilbert) (block_if_some (codes " degree 1 elements:") o.degree_one)
-      (block_if_some (codes " vertices of polyhedron:") o.vertices) (block_if_some (rays_heading o.level) o.rays) (block_if_some (codes " support hyperplanes:") o.support) (block_if_some (codes " equations:") o.equations)
-      (block_if_some (codes " extreme generators:") o.generators) (block_if_some (codes " simplices:") (option_map (map from_one) o.simplices)) (asked_block o.level o.asked)
+    (block_if_some (codes " vertices of polyhedron:") o.vertices) (block_if_some (rays_heading o.level) o.rays) (block_if_some (codes " support hyperplanes:") o.support) (block_if_some (codes " equations:") o.equations)
+    (block_if_some (codes " extreme generators:") o.generators) (block_if_some (codes " simplices:") (option_map (map from_one) o.simplices)) (asked_block o.level o.asked)
 
 pub head_split : (amb : ℕ) (level : Bool) (s : Text) → head amb level ++ s ≡ codes "amb_space " ++ (decimal amb ++ 10 ∷ (level_word level ++ 10 ∷ s))
 head_split amb level s =
@@ -270,7 +308,7 @@ one_outcome o p io ip ho hp e =
     let body = subst (λ (k : Bool). sections (headings o.level) (lists_of o) ++ asked_block o.level o.asked ≡ sections (headings k) (lists_of p) ++ asked_block k p.asked) (sym level) top.2 in
     let apart = headings_apart o.level in
     let c = sections_one (headings o.level) (lists_of o) (lists_of p) (asked_block o.level o.asked) (asked_block o.level p.asked) apart.0 (held_lists o io ho) (held_lists p ip hp) refl refl
-      (none_begins o.level (headings o.level) o.asked apart.1 ho.asked) (none_begins o.level (headings o.level) p.asked apart.1 hp.asked) body in
+    (none_begins o.level (headings o.level) o.asked apart.1 ho.asked) (none_begins o.level (headings o.level) p.asked apart.1 hp.asked) body in
     let lists : lists_of o ≡ lists_of p = c.0 in
     let modules : o.modules ≡ p.modules = cc (lists) in
     let hilbert : o.hilbert ≡ p.hilbert = cc (lists) in

@@ -19,7 +19,10 @@ const CASES: [(&str, &str); 50] = [
     ("p.in|--Limit=8", "p 8 false None"),
     ("--Limit|8|p", "p 8 false None"),
     ("--DualMode|--PrimalMode|p", "usage"),
-    ("--PrimalMode|--HilbertBasis|p", "p 100000 false None HilbertBasis PrimalMode"),
+    (
+        "--PrimalMode|--HilbertBasis|p",
+        "p 100000 false None HilbertBasis PrimalMode",
+    ),
     ("--Verbose|--Verbose|p", "usage"),
     ("-x|p", "usage"),
     ("--Make|151|p", "usage"),
