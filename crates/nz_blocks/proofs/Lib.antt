@@ -5,3 +5,5 @@ pub mod NumberTexts
 pub mod RowTexts
 pub mod AnswerTexts
 pub mod OneOutcome
+pub mod Readings
+pub mod RowReadings

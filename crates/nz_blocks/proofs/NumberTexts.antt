@@ -105,7 +105,7 @@ pub no_digit : (s : Text) → ¬ LeadsNumber s → ¬ First IsDigit s
 no_digit [] h d = d
 no_digit (b ∷ s) h d = h (inl d)
 
-no_space : (s : Text) → First IsOpening s → ¬ First (λ b. b ≡ 32) s
+pub no_space : (s : Text) → First IsOpening s → ¬ First (λ b. b ≡ 32) s
 no_space [] h e = h
 no_space (b ∷ s) (inl d) e = absurd (omega (arith, d.0, e))
 no_space (b ∷ s) (inr m) e = absurd (omega (arith, m, e))

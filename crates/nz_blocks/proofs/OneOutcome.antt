@@ -7,7 +7,7 @@ use Rattle.nz_vec.specs.Texts.{Text}
 use Rattle.nz_spec.specs.Vectors.{Vector}
 use Rattle.nz_member.specs.declared.reply.Reply.{Reply}
 use Rattle.nz_member.specs.declared.reply.Reply.TheVariants.{Parts, Outside}
-use Rattle.nz_blocks.specs.Beginnings.{First, IsDigit, BeginsBlock}
+use Rattle.nz_blocks.specs.Beginnings.{First, IsDigit, IsHeading, BeginsBlock}
 use Rattle.nz_blocks.specs.Held.{IsHeldRow, IsHeldList, AreHeldRows, IsHeldAnswer, IsHeld}
 use Rattle.nz_blocks.specs.Outcomes.{OutcomeData, IsOutcome, Asked, IsAsked, IsAnswer, number}
 use Rattle.nz_blocks.specs.AskedLines.{asked_line}
@@ -15,7 +15,7 @@ use Rattle.nz_blocks.specs.Lines.{line}
 use Rattle.nz_blocks.specs.Output.{text_of, head, level_word, heading_lines, block, block_if_some, simplices_block, asked_block, from_one, hilbert_heading, rays_heading, hilbert_blocks, element_blocks, ray_blocks, description_blocks, cone_blocks, cover_blocks}
 use Rattle.nz_blocks.specs.Sections.{headings, lists_of, sections}
 use Rattle.nz_blocks.proofs.NumberTexts.{decimal_one, numeral}
-use Rattle.nz_blocks.proofs.RowTexts.{IsHeading, heading_one, heading_split, begins_one, block_if_some_one, block_begins}
+use Rattle.nz_blocks.proofs.RowTexts.{heading_one, heading_split, begins_one, block_if_some_one, block_begins}
 use Rattle.nz_blocks.proofs.AnswerTexts.{IsPlace, IsPlain, asked_lines_one}
 
 -- two texts differ before one of them ends

@@ -6,7 +6,7 @@ use Rattle.std.specs.Fmt.{decimal, signed_decimal}
 use Rattle.std.proofs.lemmas.List.{append_cancel_left}
 use Rattle.nz_vec.specs.Texts.{Text}
 use Rattle.nz_spec.specs.Vectors.{Vector}
-use Rattle.nz_blocks.specs.Beginnings.{First, IsDigit, LeadsNumber, BeginsBlock}
+use Rattle.nz_blocks.specs.Beginnings.{First, IsDigit, LeadsNumber, IsHeading, BeginsBlock}
 use Rattle.nz_blocks.specs.Held.{IsHeldRow, IsHeldList, AreHeldRows}
 use Rattle.nz_blocks.specs.Lines.{line}
 use Rattle.nz_blocks.specs.Columns.{column_width, right_aligned, cells, spaced, entries}
@@ -99,10 +99,6 @@ rows_one rows others (x ∷ xs) (y ∷ ys) s t p h l e =
 -- an empty line and a heading, with what stands behind
 pub heading_split : (n : ℕ) (heading s : Text) → heading_lines n heading ++ s ≡ 10 ∷ (decimal n ++ (heading ++ 10 ∷ s))
 heading_split n heading s = ap (λ (x : Text). 10 ∷ x) (simp append_assoc)
-
--- a heading begins with a space
-abbrev pub IsHeading : Text → Type 0
-IsHeading heading = First (λ b. b ≡ 32) heading
 
 pub heading_bare : (heading s : Text) → IsHeading heading → ¬ First IsDigit (heading ++ s)
 heading_bare [] s h d = h

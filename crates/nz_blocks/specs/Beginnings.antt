@@ -46,6 +46,10 @@ abbrev pub unspaced : Text → Text
 unspaced [] = []
 unspaced (b ∷ text) = if b == 32 then unspaced text else b ∷ text
 
+-- a heading begins with a space, behind the number of rows
+abbrev pub IsHeading : Text → Type 0
+IsHeading heading = First (λ b. b ≡ 32) heading
+
 -- an empty line, and a line of digits and this heading
 pub record BeginsBlock (heading text : Text) : Type 0 where
   pub digits : Text

@@ -8,3 +8,4 @@ pub mod Held
 pub mod Sections
 pub mod Laws
 pub mod TestAnswers
+pub mod Readings

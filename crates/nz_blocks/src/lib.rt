@@ -11,11 +11,16 @@ mod columns;
 mod digits;
 mod laws;
 mod outcome;
+mod reading_blocks;
+mod reading_numbers;
+mod reading_rows;
+mod refusal;
 mod text;
 
 pub use asked::AskedList;
 pub use laws::texts_have_one_outcome;
 pub use outcome::Outcome;
+pub use refusal::BlockRefusal;
 pub use text::blocks;
 
 #[cfg(test)]
