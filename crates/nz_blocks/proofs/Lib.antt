@@ -7,3 +7,4 @@ pub mod AnswerTexts
 pub mod OneOutcome
 pub mod Readings
 pub mod RowReadings
+pub mod SectionReadings

@@ -15,6 +15,7 @@ mod reading_blocks;
 mod reading_numbers;
 mod reading_rows;
 mod refusal;
+mod reading_sections;
 mod text;
 
 pub use asked::AskedList;

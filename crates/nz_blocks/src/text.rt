@@ -28,7 +28,7 @@ fn level_word_of(level: bool) -> &'static [u8]
     }
 }
 
-fn hilbert_heading_of(level: bool) -> &'static [u8]
+pub fn hilbert_heading_of(level: bool) -> &'static [u8]
     ensures { result.now ≡ hilbert_heading level }
 {
     if level {
@@ -38,7 +38,7 @@ fn hilbert_heading_of(level: bool) -> &'static [u8]
     }
 }
 
-fn rays_heading_of(level: bool) -> &'static [u8]
+pub fn rays_heading_of(level: bool) -> &'static [u8]
     ensures { result.now ≡ rays_heading level }
 {
     if level {
