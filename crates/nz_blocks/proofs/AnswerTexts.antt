@@ -39,7 +39,7 @@ newline_bare s d = absurd (omega (arith, d.0))
 space_bare : (s : Text) → ¬ First IsDigit (32 ∷ s)
 space_bare s d = absurd (omega (arith, d.0))
 
-word_split : (n place : ℕ) (s : Text) → count_word place (pos (suc n)) ++ s ≡ 32 ∷ (decimal (suc n) ++ (42 ∷ 104 ∷ (decimal place ++ s)))
+pub word_split : (n place : ℕ) (s : Text) → count_word place (pos (suc n)) ++ s ≡ 32 ∷ (decimal (suc n) ++ (42 ∷ 104 ∷ (decimal place ++ s)))
 word_split n place s = ap (λ (x : Text). 32 ∷ x) (append_assoc (decimal (suc n) ++ codes "*h") (decimal place) s ∙ append_assoc (decimal (suc n)) (codes "*h") (decimal place ++ s))
 
 -- a place that is named is one
@@ -65,7 +65,7 @@ behind_bare : (m : Option ℕ) (s : Text) → ¬ First IsDigit (behind_counts m 
 behind_bare None s = newline_bare s
 behind_bare (Some p) s = space_bare (109 ∷ (decimal (p + 1) ++ 10 ∷ s))
 
-counts_bare : (k : ℕ) (cs : Vector) (m : Option ℕ) (s : Text) → ¬ First IsDigit (count_words k cs ++ behind_counts m s)
+pub counts_bare : (k : ℕ) (cs : Vector) (m : Option ℕ) (s : Text) → ¬ First IsDigit (count_words k cs ++ behind_counts m s)
 counts_bare k [] m s = behind_bare m s
 counts_bare k (pos zero ∷ cs) m s = counts_bare (k + 1) cs m s
 counts_bare k (negsuc n ∷ cs) m s = counts_bare (k + 1) cs m s

@@ -8,3 +8,4 @@ pub mod OneOutcome
 pub mod Readings
 pub mod RowReadings
 pub mod SectionReadings
+pub mod AnswerReadings

@@ -37,7 +37,15 @@ pub record HasSection (hs : List Text) (here : Text) (k : ℕ) (items xs : List 
 
 pub sections_start : (level : Bool) (here : Text) (xs : List (Option (List Vector))) (s : Text) → Each AreHeldRows xs → length xs ≡ 9 → Each (λ h. ¬ BeginsBlock h s) (headings level) → here ≡ sections (headings level) xs ++ s → AreSections (headings level) here 0 [] xs s
 sections_start level here xs s held size bare e = record {
-  later = headings level; others = xs; headed = refl; apart = (headings_apart level).0; bare = bare; held = held; size = size; split = refl; is = e
+  later = headings level;
+  others = xs;
+  headed = refl;
+  apart = (headings_apart level).0;
+  bare = bare;
+  held = held;
+  size = size;
+  split = refl;
+  is = e;
 }
 
 section_of : (hs : List Text) (here : Text) (k : ℕ) (items xs : List (Option (List Vector))) (s : Text) (later : List Text) (others : List (Option (List Vector))) →
@@ -51,16 +59,22 @@ section_of hs here k items xs s (h ∷ later) (rows ∷ others) l headed apart b
     let first : h ≡ get_or hs k [] = cc (both) in
     let rest : later ≡ drop (suc k) hs = cc (both) in
     record {
-      heading = h; rows = rows; behind = sections later others ++ s;
+      heading = h;
+      rows = rows;
+      behind = sections later others ++ s;
       is_heading = first;
       headed = apart.0;
       held = held.0;
       bare = not_later h later others s apart.0 apart.1 held.1 bare.0;
       is = is ∙ append_assoc (block_if_some h rows) (sections later others) s;
       next = record {
-        later = later; others = others;
+        later = later;
+        others = others;
         headed = rest ∙ ap (λ (i : ℕ). drop i hs) (sym (add-one k));
-        apart = apart.2; bare = bare.1; held = held.1; size = omega (arith, size);
+        apart = apart.2;
+        bare = bare.1;
+        held = held.1;
+        size = omega (arith, size);
         split = split ∙ sym (append_assoc items (rows ∷ []) others);
         is = refl;
       };
@@ -86,10 +100,11 @@ sections_last hs here k items xs s l h = sections_of here items xs s h.later h.o
 pub under : (hs : List Text) (here : Text) (k : ℕ) (items xs : List (Option (List Vector))) (s : Text) (n : HasSection hs here k items xs s) (heading : Text) → heading ≡ get_or hs k [] →
     IsHeading heading × (BeginsBlock heading n.behind → ⊥) × (here ≡ block_if_some heading n.rows ++ n.behind)
 under hs here k items xs s n heading e =
-    let same : n.heading ≡ heading = n.is_heading ∙ sym e in
-    (subst IsHeading same n.headed,
-     λ b. n.bare (subst (λ (h : Text). BeginsBlock h n.behind) (sym same) b),
-     subst (λ (h : Text). here ≡ block_if_some h n.rows ++ n.behind) same n.is)
+    let same : n.heading ≡ heading = n.is_heading ∙ sym e in (
+      subst IsHeading same n.headed,
+      λ b. n.bare (subst (λ (h : Text). BeginsBlock h n.behind) (sym same) b),
+      subst (λ (h : Text). here ≡ block_if_some h n.rows ++ n.behind) same n.is,
+    )
 
 -- ---- the head
 

@@ -11,11 +11,12 @@ mod columns;
 mod digits;
 mod laws;
 mod outcome;
+mod reading_answers;
 mod reading_blocks;
 mod reading_numbers;
 mod reading_rows;
-mod refusal;
 mod reading_sections;
+mod refusal;
 mod text;
 
 pub use asked::AskedList;

@@ -89,11 +89,7 @@ fn signed(negative: bool, size: u128) -> Option<i128>
         let number = size as i128;
         return Some(if negative { -number } else { number });
     }
-    if negative {
-        Some(i128::MIN)
-    } else {
-        None
-    }
+    if negative { Some(i128::MIN) } else { None }
 }
 
 // The number of this sign, whose digits stand there.

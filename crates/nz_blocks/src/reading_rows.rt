@@ -25,11 +25,7 @@ fn opens_at(text: &[u8], place: usize) -> bool
 }
 
 /// The numbers that stand there, each behind any spaces, and the place behind the spaces that follow.
-pub fn numbers(
-    alloc: Global,
-    text: &[u8],
-    from: usize,
-) -> Result<Found<Row<i128>>, BlockRefusal>
+pub fn numbers(alloc: Global, text: &[u8], from: usize) -> Result<Found<Row<i128>>, BlockRefusal>
     ensures { (width : ℕ → ℕ) (r : Vector) (s : Text) → IsHeldRow r → ¬ LeadsNumber s → drop from text.now ≡ spaced (cells width 0 r) ++ s → MatchResult result (λ f. (f.value ≡ r) × (drop f.next text.now ≡ unspaced s)) (λ e. e ≡ BlockRefusal.NoMemory) }
 {
     let mut entries = Vec::new(alloc);
