@@ -1,5 +1,5 @@
 -- Reading the counts of an asked line.
-use Rattle.std.proofs.Common.{◌≡◌, ℕ, zero, suc, ◌+◌, ◌-◌, ◌^◌, ◌<◌, ◌≤◌, ◌≤ℤ◌, ℤ, pos, negsuc, Option, Some, None, List, [], ◌∷◌, ◌++◌, length, get_or, drop, refl, sym, ap, subst, ◌∙◌, append_assoc, append-nil, arith, codes, FitsSigned, length-append, MatchOption, IfSome}
+use Rattle.std.proofs.Common.{◌≡◌, ℕ, zero, suc, ◌+◌, ◌^◌, ◌<◌, ◌≤◌, ◌≤ℤ◌, ℤ, pos, negsuc, Option, Some, None, [], ◌∷◌, ◌++◌, length, get_or, drop, refl, sym, ap, subst, ◌∙◌, append_assoc, append-nil, arith, codes, FitsSigned, length-append, MatchOption, IfSome}
 use Rattle.std.specs.Int.{w128}
 use Rattle.std.specs.Fmt.{decimal}
 use Rattle.std.specs.List.{AllByRecursion as Each}
@@ -9,7 +9,7 @@ use Rattle.nz_blocks.specs.Beginnings.{First, IsDigit, value, IsRun, IsLarge}
 use Rattle.nz_blocks.specs.declared.reading_numbers.Found.{Found}
 use Rattle.nz_blocks.proofs.Readings.{not_large, run_is}
 use Rattle.nz_blocks.specs.AskedLines.{count_word, count_words, module_word}
-use Rattle.nz_blocks.specs.Readings.{NamesPlace, IsNamed}
+use Rattle.nz_blocks.specs.Readings.{NamesPlace}
 use Rattle.nz_blocks.proofs.NumberTexts.{numeral, runs_one}
 use Rattle.nz_blocks.proofs.AnswerTexts.{behind_counts, counts_bare, word_split}
 

@@ -1,5 +1,5 @@
 -- Asked lines at the front of a text: where a text begins with one, it begins with no other one.
-use Rattle.std.proofs.Common.{◌≡◌, ◌≢◌, ℕ, zero, suc, ◌+◌, ◌-◌, ◌^◌, ◌<◌, ◌≤◌, ◌≤ℤ◌, ℤ, pos, negsuc, Bool, true, false, List, [], ◌∷◌, ◌++◌, length, get_or, map, refl, sym, ap, ap₂, subst, ◌∙◌, append_assoc, arith, FitsSigned, codes, Some, None, Option, is_some, inl, inr}
+use Rattle.std.proofs.Common.{◌≡◌, ℕ, zero, suc, ◌+◌, ◌^◌, ◌<◌, ◌≤ℤ◌, ℤ, pos, negsuc, Bool, List, [], ◌∷◌, ◌++◌, length, get_or, refl, sym, ap, ap₂, subst, ◌∙◌, append_assoc, arith, FitsSigned, codes, Some, None, Option}
 use Rattle.std.specs.Int.{w128}
 use Rattle.std.specs.List.{AllByRecursion as Each, flat_map}
 use Rattle.std.specs.Fmt.{decimal, signed_decimal}
@@ -14,13 +14,12 @@ use Rattle.nz_spec.specs.Constraints.{Constraint as Condition, form_of}
 use Rattle.nz_member.specs.declared.reply.Reply.{Reply}
 use Rattle.nz_member.specs.declared.reply.Reply.TheVariants.{Parts, Outside}
 use Rattle.nz_blocks.specs.Beginnings.{First, IsDigit, LeadsNumber}
-use Rattle.nz_blocks.specs.Held.{IsHeldRow, IsHeldList, IsHeldReply, IsHeldCondition, IsHeldAnswer}
-use Rattle.nz_blocks.specs.Outcomes.{OutcomeData, Asked, at_level, number, AreParts, IsAnswer, IsAsked}
-use Rattle.nz_blocks.specs.Lines.{line}
+use Rattle.nz_blocks.specs.Held.{IsHeldReply, IsHeldCondition, IsHeldAnswer}
+use Rattle.nz_blocks.specs.Outcomes.{Asked, at_level}
 use Rattle.nz_blocks.specs.Columns.{entries}
 use Rattle.nz_blocks.specs.AskedLines.{count_word, count_words, module_word, demand, outside_text, reply_text, asked_line}
-use Rattle.nz_blocks.proofs.NumberTexts.{decimal_one, signed_one, no_digit, shut, shut_behind, decimal_first}
-use Rattle.nz_blocks.proofs.RowTexts.{entries_one, newline_shut}
+use Rattle.nz_blocks.proofs.NumberTexts.{decimal_one, signed_one, shut, shut_behind, decimal_first}
+use Rattle.nz_blocks.proofs.RowTexts.{entries_one}
 
 -- the text begins with a word that names this place of the Hilbert basis
 pub record BeginsAt (place : ℕ) (s : Text) : Type 0 where

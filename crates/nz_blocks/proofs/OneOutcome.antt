@@ -1,18 +1,16 @@
 -- A text is the text of one outcome.
-use Rattle.std.proofs.Common.{◌≡◌, ◌≢◌, ℕ, zero, suc, ◌+◌, ◌^◌, ◌<◌, ◌≤◌, ℤ, pos, Bool, true, false, cond, nat_eq, List, [], ◌∷◌, ◌++◌, length, get_or, map, refl, sym, ap, ap₂, subst, ◌∙◌, append_assoc, arith, codes, Some, None, Option, option_map, IfSome, eq-eqb, append-nil}
+use Rattle.std.proofs.Common.{◌≡◌, ℕ, ◌+◌, ◌^◌, ◌<◌, ◌≤◌, Bool, true, false, cond, nat_eq, List, [], ◌∷◌, ◌++◌, length, get_or, map, refl, sym, ap, ap₂, subst, ◌∙◌, append_assoc, arith, codes, Some, None, Option, option_map, IfSome, eq-eqb, append-nil}
 use Rattle.std.specs.List.{AllByRecursion as Each, flat_map}
 use Rattle.std.specs.Fmt.{decimal}
 use Rattle.std.proofs.lemmas.List.{append_cancel_left, length-map}
 use Rattle.nz_vec.specs.Texts.{Text}
 use Rattle.nz_spec.specs.Vectors.{Vector}
-use Rattle.nz_member.specs.declared.reply.Reply.{Reply}
 use Rattle.nz_member.specs.declared.reply.Reply.TheVariants.{Parts, Outside}
 use Rattle.nz_blocks.specs.Beginnings.{First, IsDigit, IsHeading, BeginsBlock}
 use Rattle.nz_blocks.specs.Held.{IsHeldRow, IsHeldList, AreHeldRows, IsHeldAnswer, IsHeld}
-use Rattle.nz_blocks.specs.Outcomes.{OutcomeData, IsOutcome, Asked, IsAsked, IsAnswer, number}
+use Rattle.nz_blocks.specs.Outcomes.{OutcomeData, IsOutcome, Asked, IsAsked, number}
 use Rattle.nz_blocks.specs.AskedLines.{asked_line}
-use Rattle.nz_blocks.specs.Lines.{line}
-use Rattle.nz_blocks.specs.Output.{text_of, head, level_word, heading_lines, block, block_if_some, simplices_block, asked_block, from_one, hilbert_heading, rays_heading, hilbert_blocks, element_blocks, ray_blocks, description_blocks, cone_blocks, cover_blocks}
+use Rattle.nz_blocks.specs.Output.{text_of, head, level_word, block, block_if_some, simplices_block, asked_block, from_one, hilbert_heading, rays_heading, element_blocks, cone_blocks}
 use Rattle.nz_blocks.specs.Sections.{headings, lists_of, sections}
 use Rattle.nz_blocks.proofs.NumberTexts.{decimal_one, numeral}
 use Rattle.nz_blocks.proofs.RowTexts.{heading_one, heading_split, begins_one, block_if_some_one, block_begins}

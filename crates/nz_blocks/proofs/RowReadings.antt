@@ -1,5 +1,5 @@
 -- Reading numbers, one by one.
-use Rattle.std.proofs.Common.{◌≡◌, ◌≢◌, ℕ, zero, suc, ◌+◌, ◌-◌, ◌^◌, ◌<◌, ◌≤◌, ℤ, pos, Bool, List, [], ◌∷◌, ◌++◌, length, get_or, drop, take, take-append-drop, map, replicate, refl, sym, ap, ap₂, subst, ◌∙◌, append_assoc, append-nil, arith, inl, inr, ◌⊎◌, FitsSigned, map-id, length-append, eq-eqb, ne_eqb, if◌then◌else◌, codes}
+use Rattle.std.proofs.Common.{◌≡◌, ℕ, zero, suc, ◌+◌, ◌-◌, ◌<◌, ◌≤◌, ℤ, Bool, List, [], ◌∷◌, ◌++◌, length, get_or, drop, take, take-append-drop, replicate, refl, sym, ap, subst, ◌∙◌, append_assoc, append-nil, arith, inl, inr, FitsSigned, length-append, eq-eqb, ne_eqb, if◌then◌else◌}
 use Rattle.std.specs.Int.{w128}
 use Rattle.std.proofs.lemmas.Bool.{cases_eq}
 use Rattle.std.specs.Fmt.{signed_decimal}
@@ -10,7 +10,7 @@ use Rattle.nz_vec.specs.Texts.{Text}
 use Rattle.nz_spec.specs.Vectors.{Vector}
 use Rattle.nz_blocks.specs.Beginnings.{First, IsDigit, IsOpening, LeadsNumber, unspaced}
 use Rattle.nz_blocks.specs.Held.{IsHeldRow}
-use Rattle.nz_blocks.specs.Columns.{cells, spaced, right_aligned}
+use Rattle.nz_blocks.specs.Columns.{cells, spaced}
 use Rattle.nz_blocks.proofs.NumberTexts.{signed_first, no_space}
 use Rattle.nz_blocks.proofs.RowTexts.{tail_of, tail_bare, cell_split}
 use Rattle.nz_blocks.proofs.Readings.{unspaced_end, first_within, first_of, at_place}

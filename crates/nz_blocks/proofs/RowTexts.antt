@@ -1,5 +1,5 @@
 -- Rows at the front of a text: where a text begins with rows, it begins with no other ones.
-use Rattle.std.proofs.Common.{◌≡◌, ◌≢◌, ℕ, zero, suc, ◌+◌, ◌-◌, ◌^◌, ◌<◌, ◌≤◌, ℤ, pos, List, [], ◌∷◌, ◌++◌, length, map, replicate, refl, sym, ap, ap₂, subst, ◌∙◌, append_assoc, arith, FitsSigned, codes, Some, None, Option, IfSome, inl, inr}
+use Rattle.std.proofs.Common.{◌≡◌, ℕ, suc, ◌-◌, ◌^◌, ◌<◌, ℤ, List, [], ◌∷◌, ◌++◌, length, map, replicate, refl, sym, ap, ap₂, subst, ◌∙◌, append_assoc, arith, FitsSigned, Some, None, Option, inr}
 use Rattle.std.specs.Int.{w128}
 use Rattle.std.specs.List.{AllByRecursion as Each, flat_map}
 use Rattle.std.specs.Fmt.{decimal, signed_decimal}
@@ -8,7 +8,6 @@ use Rattle.nz_vec.specs.Texts.{Text}
 use Rattle.nz_spec.specs.Vectors.{Vector}
 use Rattle.nz_blocks.specs.Beginnings.{First, IsDigit, LeadsNumber, IsHeading, BeginsBlock}
 use Rattle.nz_blocks.specs.Held.{IsHeldRow, IsHeldList, AreHeldRows}
-use Rattle.nz_blocks.specs.Lines.{line}
 use Rattle.nz_blocks.specs.Columns.{column_width, right_aligned, cells, spaced, entries}
 use Rattle.nz_blocks.specs.Output.{row_text, heading_lines, block, block_if_some}
 use Rattle.nz_blocks.proofs.NumberTexts.{padded_one, number_leads, no_digit, shut, decimal_one, runs_one, numeral}

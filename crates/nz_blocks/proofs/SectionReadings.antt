@@ -1,5 +1,5 @@
 -- Reading blocks, one by one.
-use Rattle.std.proofs.Common.{◌≡◌, ℕ, zero, suc, ◌+◌, ◌-◌, ◌<◌, ◌≤◌, Bool, true, false, List, [], ◌∷◌, ◌++◌, length, get_or, drop, refl, sym, ap, ap₂, subst, ◌∙◌, append_assoc, append-nil, arith, add-one, drop-cons, length-append, Option, codes}
+use Rattle.std.proofs.Common.{◌≡◌, ℕ, suc, ◌+◌, ◌<◌, ◌≤◌, Bool, true, false, List, [], ◌∷◌, ◌++◌, length, get_or, drop, refl, sym, ap, subst, ◌∙◌, append_assoc, append-nil, arith, add-one, drop-cons, length-append, Option, codes}
 use Rattle.std.specs.List.{AllByRecursion as Each}
 use Rattle.nz_vec.specs.Texts.{Text}
 use Rattle.nz_spec.specs.Vectors.{Vector}
@@ -10,7 +10,6 @@ use Rattle.nz_blocks.specs.Sections.{headings, sections}
 use Rattle.nz_blocks.specs.Readings.{level_line}
 use Rattle.nz_blocks.proofs.OneOutcome.{AreApart, headings_apart, not_later, head_split}
 use Rattle.std.specs.Fmt.{decimal}
-use Rattle.std.proofs.lemmas.List.{append_cancel_left}
 
 -- blocks under some headings have been read, those under others are still to come
 pub record AreSections (hs : List Text) (here : Text) (k : ℕ) (items xs : List (Option (List Vector))) (s : Text) : Type 0 where

@@ -1,5 +1,5 @@
 -- The answers of the tests are such as an outcome keeps.
-use Rattle.std.proofs.Common.{◌≡◌, ◌<◌, pos, negsuc, true, [], ◌∷◌, refl, sym, subst, arith, lit<, Bool}
+use Rattle.std.proofs.Common.{◌≡◌, pos, negsuc, true, [], ◌∷◌, refl, sym, subst, arith, lit<, Bool}
 use Rattle.std.specs.List.{AllByRecursion as Each}
 use Rattle.nz_spec.specs.Constraints.{NotNegative, Multiple}
 use Rattle.nz_blocks.specs.Outcomes.{OutcomeData, HasValueAt, IsAsked, number}

@@ -1,5 +1,5 @@
 -- What memory holds: numbers of 128 bits, in lists of less than 2 ^ 64 entries.
-use Rattle.std.specs.Prelude.{ℕ, ◌<◌, ◌^◌, ℤ, List, length, Option, IfSome, FitsSigned}
+use Rattle.std.specs.Prelude.{◌<◌, ◌^◌, ℤ, List, length, Option, IfSome, FitsSigned}
 use Rattle.std.specs.Int.{w128}
 use Rattle.std.specs.List.{AllByRecursion as Each}
 use Rattle.nz_spec.specs.Vectors.{Vector}

@@ -1,5 +1,5 @@
 -- The blocks of rows, in their order, each with its heading.
-use Rattle.std.specs.Prelude.{Bool, true, false, cond, nat_eq, List, [], ◌∷◌, ◌++◌, map, codes, Option, option_map}
+use Rattle.std.specs.Prelude.{Bool, List, [], ◌∷◌, ◌++◌, map, codes, Option, option_map}
 use Rattle.nz_vec.specs.Texts.{Text}
 use Rattle.nz_spec.specs.Vectors.{Vector}
 use Rattle.nz_blocks.specs.Outcomes.{OutcomeData}

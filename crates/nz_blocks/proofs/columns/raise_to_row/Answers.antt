@@ -1,4 +1,4 @@
-use Rattle.std.proofs.Common.{◌≡◌, ◌<◌, ◌+◌, ℕ, [], length, max, map, take, get_or, pos, arith, ap, ◌∙◌, rules}
+use Rattle.std.proofs.Common.{◌<◌, length, arith, ap, ◌∙◌, rules}
 use Rattle.std.proofs.Math.Facts.{to_z-of_z}
 use Rattle.std.specs.Fmt.{signed_decimal}
 use Rattle.nz_blocks.specs.Columns.{width_at_only}

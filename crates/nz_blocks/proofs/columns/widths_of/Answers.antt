@@ -1,4 +1,4 @@
-use Rattle.std.proofs.Common.{◌≡◌, ◌<◌, ℕ, List, [], length, map, take, drop, ◌++◌, get_or, arith, ap, ◌∙◌, rules}
+use Rattle.std.proofs.Common.{◌≡◌, ◌<◌, ℕ, List, [], length, map, drop, get_or, arith, ap, ◌∙◌}
 use Rattle.std.specs.Fmt.{signed_decimal}
 use Rattle.nz_spec.specs.Vectors.{Vector}
 use Rattle.nz_blocks.proofs.Laying.{column_width_more, take_front}

@@ -1,7 +1,6 @@
-use Rattle.std.proofs.Common.{◌≡◌, ◌<◌, ◌+◌, ◌++◌, ◌∷◌, [], ◌∙◌, ℤ, ℕ, ap, drop, length, arith, rules}
+use Rattle.std.proofs.Common.{◌+◌, ◌++◌, ◌∷◌, [], ◌∙◌, ℤ, ℕ, ap, drop, arith, rules}
 use Rattle.std.proofs.Math.Facts.{to_z-of_z}
 use Rattle.std.specs.Int.{w128}
-use Rattle.nz_spec.specs.Vectors.{Vector}
 use Rattle.nz_blocks.proofs.RowReadings.{one_longer}
 use Rattle.nz_blocks.proofs.AnswerReadings.{CountRead, counts_more}
 use Rattle.nz_blocks.proofs.reading_answers.counts.Goals as goal

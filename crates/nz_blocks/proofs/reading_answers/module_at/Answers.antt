@@ -1,4 +1,4 @@
-use Rattle.std.proofs.Common.{◌≡◌, ◌<◌, ◌+◌, ◌∷◌, ◌∙◌, ℕ, Some, None, sym, ap, subst, arith}
+use Rattle.std.proofs.Common.{◌+◌, ◌∷◌, ◌∙◌, sym, subst, arith}
 use Rattle.nz_blocks.specs.Beginnings.{IsLarge}
 use Rattle.nz_blocks.proofs.Readings.{not_large, run_is, none_some}
 use Rattle.nz_blocks.proofs.AnswerReadings.{no_module, is_module, newline_no_digit}

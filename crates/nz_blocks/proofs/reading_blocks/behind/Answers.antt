@@ -1,4 +1,4 @@
-use Rattle.std.proofs.Common.{◌<◌, length, arith}
+use Rattle.std.proofs.Common.{arith}
 use Rattle.nz_blocks.proofs.RowReadings.{behind_more}
 use Rattle.nz_blocks.proofs.reading_blocks.behind.Goals as goal
 

@@ -1,5 +1,4 @@
-use Rattle.std.proofs.Common.{◌≡◌, ◌<◌, ◌≤◌, ◌+◌, ◌++◌, ◌∷◌, ◌∙◌, drop, subst, sym, arith}
-use Rattle.nz_vec.specs.Texts.{Text}
+use Rattle.std.proofs.Common.{◌∙◌, subst, sym, arith}
 use Rattle.nz_blocks.specs.Beginnings.{BeginsBlock}
 use Rattle.nz_blocks.proofs.RowTexts.{heading_split}
 use Rattle.nz_blocks.proofs.Readings.{some_none}

@@ -1,4 +1,4 @@
-use Rattle.std.proofs.Common.{◌≡◌, ◌<◌, ◌++◌, ◌∷◌, drop, subst, arith}
+use Rattle.std.proofs.Common.{◌++◌, ◌∷◌, subst, arith}
 use Rattle.nz_blocks.specs.Beginnings.{IsLarge}
 use Rattle.nz_blocks.proofs.RowTexts.{heading_bare}
 use Rattle.nz_blocks.proofs.Readings.{not_large, run_is}

@@ -1,5 +1,5 @@
 use Rattle.std.proofs.Common.{◌∙◌, arith}
-use Rattle.nz_blocks.proofs.Readings.{unspaced_step, unspaced_end}
+use Rattle.nz_blocks.proofs.Readings.{unspaced_step}
 use Rattle.nz_blocks.proofs.reading_numbers.behind_spaces.Goals as goal
 
 pub spaces-preserved : goal.spaces-preserved

@@ -1,5 +1,5 @@
-use Rattle.std.proofs.Common.{◌<◌, ◌≤◌, length, arith}
-use Rattle.nz_blocks.specs.Beginnings.{IsDigit, First}
+use Rattle.std.proofs.Common.{arith}
+use Rattle.nz_blocks.specs.Beginnings.{IsDigit}
 use Rattle.nz_blocks.proofs.Readings.{read_more, read_large, first_within, first_of, run_forward, read_whole}
 use Rattle.nz_blocks.proofs.reading_numbers.digits.Goals as goal
 

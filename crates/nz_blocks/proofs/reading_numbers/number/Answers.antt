@@ -1,4 +1,3 @@
-use Rattle.std.proofs.Common.{◌<◌, arith}
 use Rattle.nz_blocks.proofs.Readings.{unsigned_is, minus_is, opening_digit}
 use Rattle.nz_blocks.proofs.reading_numbers.number.Goals as goal
 

@@ -1,7 +1,5 @@
-use Rattle.std.proofs.Common.{◌≡◌, ◌∙◌, sym, Some, None, Option, subst, ℤ}
-use Rattle.nz_vec.specs.Texts.{Text}
+use Rattle.std.proofs.Common.{subst}
 use Rattle.nz_blocks.specs.Beginnings.{IsLarge}
-use Rattle.nz_blocks.specs.Readings.{signed_by}
 use Rattle.nz_blocks.proofs.Readings.{not_large, run_is, by_size, reads_as, none_some}
 use Rattle.nz_blocks.proofs.reading_numbers.sized.Goals as goal
 

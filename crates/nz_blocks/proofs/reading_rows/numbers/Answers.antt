@@ -1,6 +1,5 @@
-use Rattle.std.proofs.Common.{◌≡◌, ◌<◌, ◌∙◌, sym, refl, arith, drop, length, ◌∷◌, [], ◌++◌, ℤ, ap, map, map-id, subst}
+use Rattle.std.proofs.Common.{◌∙◌, sym, drop, map-id, subst}
 use Rattle.nz_spec.specs.Vectors.{Vector}
-use Rattle.nz_blocks.specs.Beginnings.{IsOpening}
 use Rattle.nz_blocks.proofs.Readings.{reads_is}
 use Rattle.std.specs.Int.{w128}
 use mir.Val.{to_z, of_z}

@@ -1,4 +1,4 @@
-use Rattle.std.proofs.Common.{◌≡◌, ◌<◌, ◌∙◌, sym, refl, arith, drop, length, ◌∷◌, [], ◌++◌, append_assoc}
+use Rattle.std.proofs.Common.{◌∙◌, ◌∷◌, [], append_assoc}
 use Rattle.nz_blocks.specs.Columns.{cells, spaced, column_width}
 use Rattle.nz_blocks.proofs.RowTexts.{newline_shut}
 use Rattle.nz_blocks.proofs.RowReadings.{behind_byte}

@@ -1,10 +1,7 @@
-use Rattle.std.proofs.Common.{◌≡◌, ◌<◌, ◌≤◌, ◌+◌, ◌++◌, ◌∷◌, [], ◌∙◌, drop, length, subst, sym, ap, refl, arith, length-append, List}
-use Rattle.nz_vec.specs.Texts.{Text}
-use Rattle.nz_spec.specs.Vectors.{Vector}
+use Rattle.std.proofs.Common.{drop, arith}
 use Rattle.nz_blocks.specs.Held.{IsHeldRow}
 use Rattle.nz_blocks.specs.Output.{row_text}
-use Rattle.std.specs.List.{flat_map}
-use Rattle.nz_blocks.proofs.RowReadings.{AreLines, lines_start, line_next, line_more, lines_last, one_longer}
+use Rattle.nz_blocks.proofs.RowReadings.{line_next, line_more, lines_last, one_longer}
 use Rattle.nz_blocks.proofs.reading_rows.rows.Goals as goal
 
 pub returns-in-Err : goal.returns-in-Err

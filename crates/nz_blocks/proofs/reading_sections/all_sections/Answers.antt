@@ -1,8 +1,7 @@
-use Rattle.std.proofs.Common.{◌≡◌, ◌<◌, ◌≤◌, ◌++◌, ◌∙◌, sym, ap, subst, arith, drop, length}
-use Rattle.nz_vec.specs.Texts.{Text}
+use Rattle.std.proofs.Common.{arith, drop}
 use Rattle.nz_blocks.specs.Sections.{headings}
 use Rattle.nz_blocks.proofs.RowReadings.{one_longer}
-use Rattle.nz_blocks.proofs.SectionReadings.{section_next, section_more, sections_last, sections_start, under}
+use Rattle.nz_blocks.proofs.SectionReadings.{section_next, section_more, sections_last, under}
 use Rattle.nz_blocks.proofs.reading_sections.all_sections.Goals as goal
 
 pub returns-in-Err : goal.returns-in-Err

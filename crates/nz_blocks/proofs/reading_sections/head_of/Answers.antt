@@ -1,4 +1,4 @@
-use Rattle.std.proofs.Common.{◌≡◌, ◌<◌, ◌≤◌, ◌++◌, ◌∙◌, sym, ap, subst, arith, drop}
+use Rattle.std.proofs.Common.{◌++◌, ◌∙◌, sym, ap, subst, arith}
 use Rattle.std.specs.Fmt.{decimal}
 use Rattle.nz_vec.specs.Texts.{Text}
 use Rattle.nz_blocks.specs.Beginnings.{IsLarge}

@@ -1,4 +1,3 @@
-use Rattle.std.proofs.Common.{◌≡◌, refl}
 use Rattle.nz_blocks.proofs.SectionReadings.{no_line}
 use Rattle.nz_blocks.proofs.reading_sections.level_at.Goals as goal
 
