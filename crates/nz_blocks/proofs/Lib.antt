@@ -9,3 +9,4 @@ pub mod Readings
 pub mod RowReadings
 pub mod SectionReadings
 pub mod AnswerReadings
+pub mod OutsideReadings

@@ -3,6 +3,7 @@ use Rattle.std.specs.Prelude.{◌≡◌, ℕ, ℤ, pos, neg_ℤ, Bool, true, fal
 use Rattle.std.specs.List.{AllByRecursion as Each}
 use Rattle.nz_vec.specs.Texts.{Text}
 use Rattle.nz_blocks.specs.Beginnings.{First, IsDigit, value}
+use Rattle.nz_spec.specs.Constraints.{Constraint as Condition, Zero, Multiple, NotNegative}
 use Rattle.nz_blocks.specs.Lines.{line}
 use Rattle.nz_blocks.specs.Output.{level_word}
 
@@ -31,3 +32,9 @@ pub record NamesPlace (place : ℕ) (text : Text) : Type 0 where
   pub are : Each IsDigit count
   pub is : text ≡ 32 ∷ (count ++ rest)
   pub place_is : IsNamed place rest
+
+-- the form of the constraint is to be 0, or a multiple of a modulus
+abbrev pub IsEqual : Condition → Type 0
+IsEqual (Zero f) = Unit {0}
+IsEqual (Multiple f m) = Unit {0}
+IsEqual (NotNegative f) = ⊥

@@ -14,6 +14,7 @@ mod outcome;
 mod reading_answers;
 mod reading_blocks;
 mod reading_numbers;
+mod reading_outside;
 mod reading_rows;
 mod reading_sections;
 mod refusal;
