@@ -1,9 +1,8 @@
 -- Reading what a form is to be.
-use Rattle.std.proofs.Common.{◌≡◌, ℕ, ℤ, List, [], ◌∷◌, ◌++◌, get_or, refl, sym, ap, ap₂, subst, ◌∙◌, append_assoc, arith, codes, FitsSigned}
+use Rattle.std.proofs.Common.{◌≡◌, ℤ, ◌∷◌, ◌++◌, get_or, refl, sym, ap, ◌∙◌, arith, codes, FitsSigned}
 use Rattle.std.specs.Int.{w128}
 use Rattle.std.specs.Fmt.{signed_decimal}
 use Rattle.nz_vec.specs.Texts.{Text}
-use Rattle.nz_spec.specs.Vectors.{Vector}
 use Rattle.nz_spec.specs.Constraints.{Constraint as Condition, Zero, Multiple, NotNegative, form_of}
 use Rattle.nz_blocks.specs.Beginnings.{First, IsDigit, unspaced}
 use Rattle.nz_blocks.specs.Held.{IsHeldCondition}

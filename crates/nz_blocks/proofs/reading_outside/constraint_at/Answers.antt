@@ -1,4 +1,3 @@
-use Rattle.std.proofs.Common.{◌≡◌}
 use Rattle.nz_blocks.proofs.OutsideReadings.{not_at_least}
 use Rattle.nz_blocks.proofs.reading_outside.constraint_at.Goals as goal
 

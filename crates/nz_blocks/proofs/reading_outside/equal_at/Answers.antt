@@ -1,6 +1,5 @@
-use Rattle.std.proofs.Common.{◌≡◌, ◌++◌, ◌∙◌, codes, sym, ap}
+use Rattle.std.proofs.Common.{◌++◌, ◌∙◌, codes, sym, ap}
 use Rattle.nz_vec.specs.Texts.{Text}
-use Rattle.nz_spec.specs.Vectors.{Vector}
 use Rattle.nz_spec.specs.Constraints.{Zero}
 use Rattle.nz_blocks.proofs.RowReadings.{behind_same}
 use Rattle.nz_blocks.proofs.OutsideReadings.{zero_of}
