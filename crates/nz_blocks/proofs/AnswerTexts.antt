@@ -184,7 +184,7 @@ outside_one x c d s t p q e =
     let same = condition_same c d x s t p q forms.0 forms.1 in
     (same, demand_same d x s t (subst (λ (k : Condition). behind_form k x s ≡ behind_form d x t) same forms.1))
 
-constraint_same : (c d : Constraint ℤ) → condition_of (λ z. z) c ≡ condition_of (λ z. z) d → c ≡ d
+pub constraint_same : (c d : Constraint ℤ) → condition_of (λ z. z) c ≡ condition_of (λ z. z) d → c ≡ d
 constraint_same (Zero f) (Zero g) e = (let h : f ≡ g = cc (e) in ap Zero h)
 constraint_same (NotNegative f) (NotNegative g) e = (let h : f ≡ g = cc (e) in ap NotNegative h)
 constraint_same (Multiple f m) (Multiple g n) e = (let h : f ≡ g = cc (e) in let k : m ≡ n = cc (e) in ap₂ Multiple h k)

@@ -10,3 +10,4 @@ pub mod RowReadings
 pub mod SectionReadings
 pub mod AnswerReadings
 pub mod OutsideReadings
+pub mod AskedReadings

@@ -1,13 +1,18 @@
 -- Reading what a form is to be.
-use Rattle.std.proofs.Common.{◌≡◌, ℤ, ◌∷◌, ◌++◌, get_or, refl, sym, ap, ◌∙◌, arith, codes, FitsSigned}
+use Rattle.std.proofs.Common.{◌≡◌, ℤ, ◌∷◌, ◌++◌, get_or, refl, sym, ap, ap₂, ◌∙◌, arith, codes, FitsSigned}
 use Rattle.std.specs.Int.{w128}
 use Rattle.std.specs.Fmt.{signed_decimal}
 use Rattle.nz_vec.specs.Texts.{Text}
+use Rattle.nz_spec.specs.Vectors.{Vector}
 use Rattle.nz_spec.specs.Constraints.{Constraint as Condition, Zero, Multiple, NotNegative, form_of}
 use Rattle.nz_blocks.specs.Beginnings.{First, IsDigit, unspaced}
 use Rattle.nz_blocks.specs.Held.{IsHeldCondition}
-use Rattle.nz_blocks.specs.AskedLines.{demand}
+use Rattle.nz_blocks.specs.AskedLines.{demand, outside_text}
+use Rattle.nz_blocks.specs.Columns.{cells, spaced, entries}
 use Rattle.nz_blocks.specs.Readings.{IsEqual}
+use Rattle.nz_blocks.proofs.RowTexts.{entries_cells}
+use Rattle.nz_blocks.proofs.RowReadings.{behind_same}
+use Rattle.nz_blocks.proofs.AnswerTexts.{behind_form, outside_split}
 
 -- a demand that is no equality
 pub at_least : (here sign next : Text) (c : Condition) (s : Text) → sign ≡ codes ">= 0" → here ≡ unspaced (demand c ++ (codes " gives " ++ s)) → here ≡ sign ++ next → (NotNegative (form_of c) ≡ c) × (next ≡ codes " gives " ++ s)
@@ -51,3 +56,14 @@ pub zero_of : (here sign : Text) (c : Condition) (s : Text) → IsEqual c → si
 zero_of here sign (NotNegative f) s q l e h = absurd q
 zero_of here sign (Zero f) s q l e h = (refl, e)
 zero_of here sign (Multiple f m) s q l e h = absurd (h (signed_decimal m ++ (codes " gives " ++ s)) (e ∙ ap (λ (t : Text). t ++ (signed_decimal m ++ (codes " gives " ++ s))) (sym l)))
+
+-- ---- the whole answer
+
+pub form_start : (here word next : Text) (x : Vector) (c : Condition) (s : Text) → word ≡ codes " out " → here ≡ outside_text x c ++ 10 ∷ s → here ≡ word ++ next → next ≡ spaced (cells (λ i. 0) 0 (form_of c)) ++ behind_form c x s
+form_start here word next x c s l e h =
+    behind_same here word next (spaced (cells (λ i. 0) 0 (form_of c)) ++ behind_form c x s) h
+    (e ∙ outside_split x c s ∙ ap₂ (λ (a b : Text). a ++ (b ++ behind_form c x s)) (sym l) (entries_cells (form_of c)))
+
+pub no_out : (here word : Text) (x : Vector) (c : Condition) (s : Text) → word ≡ codes " out " → here ≡ outside_text x c ++ 10 ∷ s → ((t : Text) → here ≡ word ++ t → ⊥) → ⊥
+no_out here word x c s l e h =
+    h (entries (form_of c) ++ behind_form c x s) (e ∙ outside_split x c s ∙ ap (λ (a : Text). a ++ (entries (form_of c) ++ behind_form c x s)) (sym l))

@@ -12,6 +12,7 @@ mod digits;
 mod laws;
 mod outcome;
 mod reading_answers;
+mod reading_asked;
 mod reading_blocks;
 mod reading_numbers;
 mod reading_outside;
