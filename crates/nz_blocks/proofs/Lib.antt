@@ -11,3 +11,5 @@ pub mod SectionReadings
 pub mod AnswerReadings
 pub mod OutsideReadings
 pub mod AskedReadings
+pub mod ShapeReadings
+pub mod DraftReadings

@@ -159,7 +159,7 @@ asked_begins level xs l = record {
   is = heading_split (length xs) asked_heading (flat_map (asked_line level) xs);
 }
 
-none_begins : (level : Bool) (hs : List Text) (xs : Option (List Asked)) → Each (λ h. IsHeading h × IsApart h asked_heading) hs → IfSome xs (IsHeldList IsHeldAnswer) → Each (λ h. ¬ BeginsBlock h (asked_block level xs)) hs
+pub none_begins : (level : Bool) (hs : List Text) (xs : Option (List Asked)) → Each (λ h. IsHeading h × IsApart h asked_heading) hs → IfSome xs (IsHeldList IsHeldAnswer) → Each (λ h. ¬ BeginsBlock h (asked_block level xs)) hs
 none_begins level [] xs a held = tt
 none_begins level (h ∷ hs) None a held = ((λ b. absurd (nothing b.is)), none_begins level hs None a.1 held)
   where
@@ -282,7 +282,7 @@ abbrev made : ℕ → Bool → Option (List Vector) → Option (List Vector) →
 made a b c d e f g h i j k l = record { amb = a; level = b; modules = c; hilbert = d; degree_one = e; vertices = f; rays = g; support = h; equations = i; generators = j; simplices = k; asked = l }
 
 -- outcomes are one where all their fields are
-same_fields : (o p : OutcomeData) → o.amb ≡ p.amb → o.level ≡ p.level → o.modules ≡ p.modules → o.hilbert ≡ p.hilbert → o.degree_one ≡ p.degree_one → o.vertices ≡ p.vertices → o.rays ≡ p.rays → o.support ≡ p.support → o.equations ≡ p.equations → o.generators ≡ p.generators → o.simplices ≡ p.simplices → o.asked ≡ p.asked → o ≡ p
+pub same_fields : (o p : OutcomeData) → o.amb ≡ p.amb → o.level ≡ p.level → o.modules ≡ p.modules → o.hilbert ≡ p.hilbert → o.degree_one ≡ p.degree_one → o.vertices ≡ p.vertices → o.rays ≡ p.rays → o.support ≡ p.support → o.equations ≡ p.equations → o.generators ≡ p.generators → o.simplices ≡ p.simplices → o.asked ≡ p.asked → o ≡ p
 same_fields o p e0 e1 e2 e3 e4 e5 e6 e7 e8 e9 e10 e11 =
     ap (λ (x : ℕ). made x o.level o.modules o.hilbert o.degree_one o.vertices o.rays o.support o.equations o.generators o.simplices o.asked) e0
     ∙ ap (λ (x : Bool). made p.amb x o.modules o.hilbert o.degree_one o.vertices o.rays o.support o.equations o.generators o.simplices o.asked) e1

@@ -9,3 +9,4 @@ pub mod Sections
 pub mod Laws
 pub mod TestAnswers
 pub mod Readings
+pub mod Shapes

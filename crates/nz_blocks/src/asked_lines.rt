@@ -99,7 +99,7 @@ fn put_demand(out: &mut Bytes, constraint: &Constraint<i128>) -> Result<(), NoMe
     }
 }
 
-fn form_of(constraint: &Constraint<i128>) -> &Row<i128>
+pub fn form_of(constraint: &Constraint<i128>) -> &Row<i128>
     ensures { result.now ≡ form_of (condition_of (λ z. z) constraint.now) }
 {
     match constraint {
@@ -110,7 +110,7 @@ fn form_of(constraint: &Constraint<i128>) -> &Row<i128>
 }
 
 // The vector as a row: with level 1 where there is a level.
-fn as_row(alloc: Global, level: bool, x: &Row<i128>) -> Result<Row<i128>, NoMemory>
+pub fn as_row(alloc: Global, level: bool, x: &Row<i128>) -> Result<Row<i128>, NoMemory>
     ensures { IfOk result (λ r. r ≡ at_level level x.now) }
 {
     if level {

@@ -9,8 +9,10 @@ mod asked;
 mod asked_lines;
 mod columns;
 mod digits;
+mod draft;
 mod laws;
 mod outcome;
+mod read;
 mod reading_answers;
 mod reading_asked;
 mod reading_blocks;
@@ -18,12 +20,16 @@ mod reading_numbers;
 mod reading_outside;
 mod reading_rows;
 mod reading_sections;
+mod reading_simplices;
 mod refusal;
+mod shapes;
+mod shapes_asked;
 mod text;
 
 pub use asked::AskedList;
 pub use laws::texts_have_one_outcome;
 pub use outcome::Outcome;
+pub use read::read_blocks;
 pub use refusal::BlockRefusal;
 pub use text::blocks;
 
