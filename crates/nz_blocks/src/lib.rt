@@ -1,8 +1,8 @@
 //! The output text of a run: what was found, in blocks of right-aligned rows.
-//! Its contract: `blocks` gives exactly the text of an outcome, and a text is the text of one outcome.
+//! Its contract: `blocks` gives exactly the text of an outcome, `read_blocks` the one outcome of a text, or Bad where there is none.
 //! Below it stand the rows of `nz_vec` and the replies of `nz_member`; the numbers are printed by `itoa`.
 //! `nz_run` stores the text.
-//! Start with `specs/Output.antt`, then `blocks`.
+//! Start with `specs/Output.antt`, then `blocks` and `read_blocks`.
 #![tactic(auto)]
 
 mod asked;

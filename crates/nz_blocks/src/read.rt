@@ -5,12 +5,12 @@ ghost use Rattle.nz_blocks.specs.Outcomes.{OutcomeData, IsOutcome, number};
 ghost use Rattle.nz_blocks.specs.Held.{IsHeld};
 ghost use Rattle.nz_blocks.specs.Output.{text_of};
 
+use crate::Outcome;
 use crate::draft::{Draft, read_draft};
 use crate::refusal::BlockRefusal;
 use crate::shapes::is_shaped;
 use crate::shapes_asked::answers_fit;
 use crate::text::blocks;
-use crate::Outcome;
 use std::alloc::Global;
 
 // The draft as an outcome, where it is one.
@@ -47,6 +47,7 @@ fn outcome_of(alloc: Global, draft: Draft) -> Result<Outcome, BlockRefusal>
 /// the exact text is taken.
 pub fn read_blocks(alloc: Global, text: &[u8]) -> Result<Outcome, BlockRefusal>
     ensures ok { IfOk result (λ o. text_of o ≡ text.now) }
+    ensures same { (o : OutcomeData) → IsOutcome o → IsHeld o → text_of o ≡ text.now → IfOk result (λ p. p ≡ o) }
     ensures bad { result ≡ Err BlockRefusal.Bad → (o : OutcomeData) → IsOutcome o → IsHeld o → text_of o ≢ text.now }
 {
     let draft = match read_draft(alloc, text) {

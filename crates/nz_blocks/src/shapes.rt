@@ -33,7 +33,11 @@ fn list_fits(rows: &Option<Rows<i128>>, width: usize) -> bool
 fn width_of(amb: u32, level: bool) -> usize
     ensures { result ≡ width_at amb level }
 {
-    if level { amb as usize + 1 } else { amb as usize }
+    if level {
+        amb as usize + 1
+    } else {
+        amb as usize
+    }
 }
 
 // Whether all rows have as many entries as they are to have.

@@ -4,7 +4,7 @@ ghost use Rattle.std.specs.List.{AllByRecursion as Each};
 ghost use Rattle.nz_spec.specs.Vectors.{HasWidth};
 ghost use Rattle.nz_blocks.specs.TestAnswers.{three, zero_fails, odd_three, two_fails};
 
-use crate::{AskedList, Outcome, blocks};
+use crate::{AskedList, BlockRefusal, Outcome, blocks, read_blocks};
 use nz_member::Reply;
 use nz_vec::{Constraint, PlaceLists, Places, Row, Rows};
 use std::alloc::Global;
@@ -18,6 +18,24 @@ const TEXTS: [&[u8]; 5] = [
     b"amb_space 1\ninhomogeneous\n\n1 module generators:\n1 1\n\n1 Hilbert basis elements of recession monoid:\n1 0\n\n2 asked vectors:\n3: in 2*h1 m1\n0: out 1 -1 >= 0 gives -1\n",
     b"amb_space 2\nhomogeneous\n\n4 Hilbert basis elements:\n1 1\n2 1\n1 2\n1 3\n\n2 degree 1 elements:\n1 1\n2 1\n",
     b"amb_space 1\ninhomogeneous\n\n1 module generators:\n1 1\n\n1 Hilbert basis elements of recession monoid:\n2 0\n\n1 vertices of polyhedron:\n1 1\n\n1 extreme rays of recession cone:\n2 0\n\n2 asked vectors:\n3: in 1*h1 m1\n2: out 1 -1 = 0 mod 2 gives 1\n",
+];
+
+// No texts of an outcome: the last line is missing, a row stands twice, two spaces stand for one, the end of the last line is
+// missing, a heading stands twice, blocks stand in another order, numbers are written in other ways, a number has more than
+// 128 bits, a place is no generator's, and an answer names no module generator.
+const BAD_TEXTS: [&[u8]; 12] = [
+    b"amb_space 2\nhomogeneous\n\n3 Hilbert basis elements:\n0 2\n1 1\n",
+    b"amb_space 2\nhomogeneous\n\n3 Hilbert basis elements:\n0 2\n1 1\n2 0\n2 0\n",
+    b"amb_space 2\nhomogeneous\n\n3 Hilbert basis elements:\n0  2\n1 1\n2 0\n",
+    b"amb_space 2\nhomogeneous\n\n3 Hilbert basis elements:\n0 2\n1 1\n2 0",
+    b"amb_space 2\nhomogeneous\n\n1 Hilbert basis elements:\n0 2\n\n1 Hilbert basis elements:\n0 2\n",
+    b"amb_space 2\nhomogeneous\n\n1 degree 1 elements:\n1 1\n\n1 Hilbert basis elements:\n1 1\n",
+    b"amb_space 2\nhomogeneous\n\n1 Hilbert basis elements:\n+1 1\n",
+    b"amb_space 2\nhomogeneous\n\n1 Hilbert basis elements:\n-0 1\n",
+    b"amb_space 2\nhomogeneous\n\n1 Hilbert basis elements:\n01 1\n",
+    b"amb_space 1\nhomogeneous\n\n1 Hilbert basis elements:\n170141183460469231731687303715884105728\n",
+    b"amb_space 2\nhomogeneous\n\n2 extreme generators:\n1 3\n2 1\n\n1 simplices:\n1 3\n",
+    b"amb_space 1\ninhomogeneous\n\n1 module generators:\n1 1\n\n1 Hilbert basis elements of recession monoid:\n1 0\n\n1 asked vectors:\n3: in 2*h1 m2\n",
 ];
 
 fn one(alloc: Global, first: i128) -> Result<Row<i128>, Fail>
@@ -290,6 +308,28 @@ fn texts_are_exact(rt: HostRuntime) -> Result<(), Fail> {
         let outcome = outcome_of(rt.alloc(), number)?;
         let text = blocks(rt.alloc(), &outcome).or(Err("no memory"))?;
         assert!(rt; text.as_slice() == TEXTS[number]);
+    }
+    Ok(())
+}
+
+#[test]
+fn texts_are_read_back(rt: HostRuntime) -> Result<(), Fail> {
+    for number in 0..TEXTS.len() {
+        let outcome = read_blocks(rt.alloc(), TEXTS[number]).or(Err("not read"))?;
+        let text = blocks(rt.alloc(), &outcome).or(Err("no memory"))?;
+        assert!(rt; text.as_slice() == TEXTS[number]);
+    }
+    Ok(())
+}
+
+#[test]
+fn a_text_of_no_outcome_is_bad(rt: HostRuntime) -> Result<(), Fail> {
+    for number in 0..BAD_TEXTS.len() {
+        match read_blocks(rt.alloc(), BAD_TEXTS[number]) {
+            Err(BlockRefusal::Bad) => {}
+            Err(BlockRefusal::NoMemory) => return Err(Fail::from("no memory")),
+            Ok(_) => return Err(Fail::from("a bad text is read")),
+        }
     }
     Ok(())
 }

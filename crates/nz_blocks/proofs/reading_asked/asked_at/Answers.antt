@@ -1,4 +1,4 @@
-use Rattle.std.proofs.Common.{◌+◌, ◌∷◌}
+use Rattle.std.proofs.Common.{◌∷◌}
 use Rattle.nz_blocks.specs.Outcomes.{at_level}
 use Rattle.nz_blocks.proofs.RowReadings.{behind_byte, has_byte}
 use Rattle.nz_blocks.proofs.AnswerTexts.{colon_shut}

@@ -1,6 +1,5 @@
 use Rattle.std.proofs.Common.{[], ◌∙◌, sym, ap, append-nil, Some}
 use Rattle.std.specs.List.{flat_map}
-use Rattle.nz_blocks.specs.Outcomes.{Asked}
 use Rattle.nz_blocks.specs.AskedLines.{asked_line}
 use Rattle.nz_blocks.proofs.Readings.{some_none}
 use Rattle.nz_blocks.proofs.AskedReadings.{no_asked, has_asked}

@@ -1,4 +1,4 @@
-use Rattle.std.proofs.Common.{◌+◌, ap₂}
+use Rattle.std.proofs.Common.{ap₂}
 use Rattle.nz_member.specs.declared.reply.Reply.TheVariants.{Parts}
 use Rattle.nz_blocks.proofs.RowReadings.{behind_byte}
 use Rattle.nz_blocks.proofs.reading_asked.parts.Goals as goal

@@ -1,4 +1,4 @@
-use Rattle.std.proofs.Common.{◌<◌, [], ℕ, get_or, arith}
+use Rattle.std.proofs.Common.{◌<◌, [], get_or, arith}
 use Rattle.std.specs.List.{AllByRecursion as Each}
 use Rattle.nz_blocks.specs.Output.{from_one}
 use Rattle.nz_blocks.proofs.ShapeReadings.{each_at, each_push, image_at, taken_more, all_taken}

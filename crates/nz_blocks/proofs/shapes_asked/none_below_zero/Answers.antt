@@ -1,4 +1,4 @@
-use Rattle.std.proofs.Common.{◌≡◌, pos, ◌≤ℤ◌, get_or, arith, rules}
+use Rattle.std.proofs.Common.{pos, ◌≤ℤ◌, get_or, arith, rules}
 use Rattle.nz_blocks.proofs.ShapeReadings.{each_more, each_whole}
 use Rattle.nz_blocks.proofs.shapes_asked.none_below_zero.Goals as goal
 
