@@ -25,20 +25,16 @@ fn no_memory() -> ExitCode {
     ExitCode::from(Status::NoMemory.code())
 }
 
-fn run_told(rt: HostRuntime, words: &[String], watch: &mut Box<dyn Watch>) -> ExitCode {
-    let mut folder = DiskFolder::new(rt);
-    let mut console = StdSink::new(rt);
-    let status = run(rt.alloc(), words, &mut folder, &mut console, watch);
-    ExitCode::from(status.code())
-}
-
 // A run that prints nothing of its stages.
 fn run_quietly(rt: HostRuntime, words: &[String]) -> ExitCode {
     let mut watch: Box<dyn Watch> = match Box::new(rt.alloc(), QuietWatch::new()) {
         Ok(watch) => watch,
         Err(_) => return no_memory(),
     };
-    run_told(rt, words, &mut watch)
+    let mut folder = DiskFolder::new(rt);
+    let mut console = StdSink::new(rt);
+    let status = run(rt.alloc(), words, &mut folder, &mut console, &mut watch);
+    ExitCode::from(status.code())
 }
 
 // A run that prints its stages.
@@ -47,7 +43,10 @@ fn run_printing(rt: HostRuntime, words: &[String]) -> ExitCode {
         Ok(watch) => watch,
         Err(_) => return no_memory(),
     };
-    run_told(rt, words, &mut watch)
+    let mut folder = DiskFolder::new(rt);
+    let mut console = StdSink::new(rt);
+    let status = run(rt.alloc(), words, &mut folder, &mut console, &mut watch);
+    ExitCode::from(status.code())
 }
 
 // A run that stops after so many stages.
@@ -56,7 +55,10 @@ fn run_stopping(rt: HostRuntime, words: &[String], left: u64, lines: bool) -> Ex
         Ok(watch) => watch,
         Err(_) => return no_memory(),
     };
-    run_told(rt, words, &mut watch)
+    let mut folder = DiskFolder::new(rt);
+    let mut console = StdSink::new(rt);
+    let status = run(rt.alloc(), words, &mut folder, &mut console, &mut watch);
+    ExitCode::from(status.code())
 }
 
 // Where memory is wanting, nothing is run, since a part of the words would mean another run.
