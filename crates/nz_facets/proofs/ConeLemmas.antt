@@ -1,5 +1,6 @@
 -- Constraints of the cone behind others.
 use Rattle.std.proofs.Common.{◌≡◌, ℕ, List, [], ◌∷◌, ◌++◌, map, refl, sym, ap, ◌∙◌, subst}
+use Rattle.std.specs.Prelude.{Result, Ok, Err, IfErr, MatchResult}
 use Rattle.std.specs.List.{AllByRecursion as Each}
 use Rattle.nz_spec.specs.Vectors.{Vector}
 use Rattle.nz_spec.specs.Sums.{IsInCone}
@@ -27,3 +28,8 @@ members_both w Member Other list all h a x l =
       (λ m. let n = subst (Each Met) a.whole m in ((a.members x l).0 (each_right Met list a.added n), (h x l).0 (each_left Met list a.added n))),
       (λ m. subst (Each Met) (sym a.whole) (each_append Met list a.added ((h x l).1 m.1) ((a.members x l).1 m.0))),
     )
+
+-- what a refusal tells
+pub err_of_match : {X E : Type 0} (r : Result X E) (P : X → Type 0) (R S : E → Type 0) → MatchResult r P R → ((e : E) → R e → S e) → IfErr r S
+err_of_match (Ok x) P R S h f = tt
+err_of_match (Err e) P R S h f = f e h

@@ -1,8 +1,9 @@
 -- The vectors that constraints describe.
-use Rattle.std.specs.Prelude.{◌≡◌, ◌↔◌, ⊤, ℕ, List, ◌++◌, Option, Some, None}
+use Rattle.std.specs.Prelude.{◌≡◌, ◌↔◌, ⊤, ℕ, List, ◌++◌, Option, Some, None, ℤ}
 use Rattle.nz_spec.specs.Vectors.{Vector, HasWidth}
 use Rattle.nz_spec.specs.Sums.{IsInGroup}
 use Rattle.nz_spec.specs.Constraints.{Constraint, MeetsAll}
+use Rattle.nz_sweep.specs.Numbers.{SomeNumberLarge, IsConstraintNumber}
 
 -- of the vectors of this width, just those of the set meet all the constraints
 abbrev pub HaveMembers : ℕ → (Vector → Type 0) → List Constraint → Type 0
@@ -12,6 +13,11 @@ HaveMembers w Member cs = (x : Vector) → HasWidth w x → MeetsAll cs x ↔ Me
 abbrev pub IsInGiven : ℕ → Option (List Vector) → Vector → Type 0
 IsInGiven w None x = ⊤
 IsInGiven w (Some vs) x = IsInGroup w vs x
+
+-- a number of the constraints of their group is above the bound, where the vectors are given
+abbrev pub IsGivenTooLarge : ℤ → ℕ → Option (List Vector) → Type 0
+IsGivenTooLarge bound w None = ⊥
+IsGivenTooLarge bound w (Some vs) = SomeNumberLarge bound (IsConstraintNumber w vs)
 
 -- after the constraints before there are others, which just the vectors of the set meet
 pub record AreWithMembers (w : ℕ) (Member : Vector → Type 0) (before all : List Constraint) : Type 0 where

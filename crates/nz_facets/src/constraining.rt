@@ -1,11 +1,11 @@
-ghost use Rattle.std.specs.Prelude.{◌≡◌, ◌++◌, ⊤, map, option_map, IfOk, MatchOption, MatchResult, Err, None};
+ghost use Rattle.std.specs.Prelude.{◌≡◌, ◌⊎◌, ◌++◌, ⊤, map, option_map, IfErr, IfOk, MatchOption, MatchResult};
 ghost use Rattle.std.specs.List.{AllByRecursion as Each};
 ghost use Rattle.nz_spec.specs.Vectors.{HasWidth};
 ghost use Rattle.nz_spec.specs.Sums.{IsInCone};
 ghost use Rattle.nz_spec.specs.Constraints.{Zero, NotNegative};
 ghost use Rattle.nz_pointed.specs.Pointed.{IsTooLarge};
 ghost use Rattle.nz_sweep.specs.Generating.{IsEchelon};
-ghost use Rattle.nz_facets.specs.Members.{HaveMembers, IsInGiven, AreWithMembers};
+ghost use Rattle.nz_facets.specs.Members.{HaveMembers, IsInGiven, IsGivenTooLarge, AreWithMembers};
 
 use crate::describing::describe;
 use nz_sweep::Basis;
@@ -14,8 +14,8 @@ use std::alloc::Global;
 
 /// Constraints that exactly those vectors meet of which some positive multiple is a sum of the
 /// generators with counts, and which are in the lattice where one is given: those of the lattice,
-/// and then those of the cone. Without a lattice Range comes as with `describe`; which numbers of a
-/// lattice make it Range is not stated.
+/// and then those of the cone. Range comes as with `describe`, and as with `lattice_constraints` where
+/// a lattice is given.
 pub fn constraints_of<T: Scalar>(
     alloc: Global,
     width: usize,
@@ -25,7 +25,7 @@ pub fn constraints_of<T: Scalar>(
     requires gens { Each (HasWidth width) gens.now }
     requires lattice { MatchOption lattice ⊤ (λ b. (b.now.width ≡ width) × IsEchelon b.now.vectors) }
     ensures members { IfOk result (HaveMembers width (λ x. IsInCone width gens.now x × IsInGiven width (option_map (λ b. b.now.vectors) lattice.entry) x)) }
-    ensures range { result ≡ Err Num.Range → lattice.entry ≡ None → IsTooLarge T.HALF width gens.now }
+    ensures range { IfErr result (λ e. e ≡ Num.Range → IsTooLarge T.HALF width gens.now ⊎ IsGivenTooLarge T.HALF width (option_map (λ b. b.now.vectors) lattice.entry)) }
 {
     let list = match of_lattice(alloc, width, lattice) {
         Ok(list) => list,
@@ -55,7 +55,7 @@ fn of_lattice<T: Scalar>(
 ) -> Result<Constraints<T>, Num>
     requires { MatchOption lattice ⊤ (λ b. (b.now.width ≡ width) × IsEchelon b.now.vectors) }
     ensures members { IfOk result (HaveMembers width (IsInGiven width (option_map (λ b. b.now.vectors) lattice.entry))) }
-    ensures range { result ≡ Err Num.Range → lattice.entry ≡ None → ⊥ }
+    ensures range { IfErr result (λ e. e ≡ Num.Range → IsGivenTooLarge T.HALF width (option_map (λ b. b.now.vectors) lattice.entry)) }
 {
     match lattice {
         Some(lattice) => lattice.lattice_constraints(alloc),
