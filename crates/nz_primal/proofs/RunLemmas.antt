@@ -21,7 +21,7 @@ use Rattle.nz_linear.proofs.ConeMembers.{cone_of_members}
 use Rattle.nz_linear.proofs.Coordinates.{irreducible_forth, irreducible_back}
 use Rattle.nz_order.proofs.SortLaws.{IsListOf-where}
 use Rattle.nz_edge.specs.Watching.{Pair}
-use Rattle.nz_edge.specs.Telling.{Watched, HasPassed, HasPassedAll, HasStopped, HasLeft}
+use Rattle.nz_edge.specs.Telling.{Watched, HasPassed, HasPassedAll, HasStopped}
 use Rattle.nz_edge.proofs.TellingLemmas.{none_told}
 use Rattle.nz_vec.specs.declared.answers.Num.{Num}
 use Rattle.nz_vec.specs.declared.answers.Num.TheVariants as num
@@ -30,7 +30,7 @@ use Rattle.nz_vec.specs.declared.answers.Work.TheVariants.{Range, TooMany, Stopp
 use Rattle.nz_classes.specs.Classes.{IsPoint}
 use Rattle.nz_cover.specs.Placing.{ArePlaceable, IsInConeOf, IsPlaced, IsPlaceRefusal}
 use Rattle.nz_sweep.specs.Bases.{Base, IsBase}
-use Rattle.nz_primal.specs.Lists.{ArePrimalLists, IsHeld, IsPrimalRefusal}
+use Rattle.nz_primal.specs.Lists.{ArePrimalLists, IsHeld, IsPrimalRefusal, HasPassedFirst}
 use Rattle.nz_primal.specs.Second.{IsFaceBase, HaveCoordinates}
 use Rattle.nz_primal.specs.Parts.{IsSettled, IsSecondCone, IsVectorOf, HasFullSimplex, IsWalkRefusal, IsFirstRefusal, IsLastRefusal, stage_count}
 use Rattle.nz_primal.proofs.SumCoordinates as sum
@@ -48,9 +48,6 @@ all_where P Q f told a b h = record { passed = h.passed; telling = passed_where 
 
 pub stopped_where : (P Q : List Pair → Type 0) → ((ps : List Pair) → P ps → Q ps) → (told stage : ℕ) (a b : Watched) → HasStopped P told stage a b → HasStopped Q told stage a b
 stopped_where P Q f told stage a b h = record { passed = h.passed; new = h.new; telling = passed_where P Q f told h.passed a b true h.telling; is_last = h.is_last }
-
-pub left_where : (P Q : List Pair → Type 0) → ((ps : List Pair) → P ps → Q ps) → (told number : ℕ) (a b : Watched) → HasLeft P told number a b → HasLeft Q told number a b
-left_where P Q f told number a b h = record { passed = h.passed; telling = passed_where P Q f told h.passed a b false h.telling; is_greater = h.is_greater }
 
 -- ---- how many stages there are
 separates_length : {Fresh : List Vector → Vector → Type 0} {earlier vs first others : List Vector} → Separates Fresh earlier vs first others → length first + length others ≡ length vs
@@ -143,11 +140,14 @@ module _ (w : ℕ) (rows order extreme : List Vector) (base : Base) (coordinates
   pub all_told : (told : ℕ) (a b : Watched) → HasPassedAll (ArePlacings (length base.vectors) coordinates) told a b → HasPassedAll (ArePlacings w extreme) told a b
   all_told told a b h = all_where (ArePlacings (length base.vectors) coordinates) (ArePlacings w extreme) placings_back told a b h
 
+  passed_first : (told passed : ℕ) (a b : Watched) → HasPassed (ArePlacings (length base.vectors) coordinates) told passed a b false → HasPassedFirst w rows order told passed a b
+  passed_first told passed a b h = inr (extreme, st.generators, passed_where (ArePlacings (length base.vectors) coordinates) (ArePlacings w extreme) placings_back told passed a b false h)
+
   pub place_refused : (h : ℤ) (limit told : ℕ) (a b : Watched) (e : Work) → IsPlaceRefusal h (length base.vectors) coordinates told a b e → IsPrimalRefusal w rows order limit told a b e
-  place_refused h limit told a b (Range number) k = inr (extreme, st.generators, left_where (ArePlacings (length base.vectors) coordinates) (ArePlacings w extreme) placings_back told number a b k.0)
+  place_refused h limit told a b (Range number) k = (k.0.passed, passed_first told k.0.passed a b k.0.telling, k.0.is_greater)
   place_refused h limit told a b TooMany k = absurd k
   place_refused h limit told a b (Stopped stage) k = (extreme, st.generators, stopped_where (ArePlacings (length base.vectors) coordinates) (ArePlacings w extreme) placings_back told stage a b k)
-  place_refused h limit told a b NoMemory k = tt
+  place_refused h limit told a b NoMemory k = (k.0, passed_first told k.0 a b k.1)
 
   -- without a base there are no rays
   pub no_rays : length base.vectors ≡ 0 → length coordinates ≡ 0
@@ -191,18 +191,14 @@ module _ (w : ℕ) (rows order extreme : List Vector) (base : Base) (coordinates
       }
 
   pub walk_refused : (limit told : ℕ) (a b : Watched) (simplices : List (List ℕ)) (forms : List (List Vector)) (e result : Work) → IsPlaced (length base.vectors) coordinates simplices forms → HasPassedAll (ArePlacings (length base.vectors) coordinates) told a b → IsWalkRefusal limit coordinates simplices e → IsLastRefusal e told (stage_count (length base.vectors) (length coordinates)) result → IsPrimalRefusal w rows order limit told a b result
-  walk_refused limit told a b simplices forms (Range number) result p h k i = subst (IsPrimalRefusal w rows order limit told a b) (sym i) (inr (
-    extreme,
-    st.generators,
-    record {
-      passed = h.passed;
-      telling = passed_where (ArePlacings (length base.vectors) coordinates) (ArePlacings w extreme) placings_back told h.passed a b false h.telling;
-      is_greater = ap (λ n. max told n) (sym (h.all ∙ stages_counted (length base.vectors) coordinates h.telling.stages have.widths settled_cone.full h.telling.are_stages));
-    },
-  ))
+  walk_refused limit told a b simplices forms (Range number) result p h k i = subst (IsPrimalRefusal w rows order limit told a b) (sym i) (
+    h.passed,
+    passed_first told h.passed a b h.telling,
+    ap (λ n. max told n) (sym (h.all ∙ stages_counted (length base.vectors) coordinates h.telling.stages have.widths settled_cone.full h.telling.are_stages)),
+  )
   walk_refused limit told a b simplices forms TooMany result p h k i = subst (IsPrimalRefusal w rows order limit told a b) (sym i) (extreme, st.generators, all_told told a b h, more_held limit simplices p.cover.simplices k)
   walk_refused limit told a b simplices forms (Stopped stage) result p h k i = absurd k
-  walk_refused limit told a b simplices forms NoMemory result p h k i = subst (IsPrimalRefusal w rows order limit told a b) (sym i) tt
+  walk_refused limit told a b simplices forms NoMemory result p h k i = subst (IsPrimalRefusal w rows order limit told a b) (sym i) (h.passed, passed_first told h.passed a b h.telling)
 
   -- ---- the same where the number of base vectors is called n
   pub placeable_at : (n : ℕ) → n ≡ length base.vectors → ArePlaceable n coordinates
@@ -223,5 +219,5 @@ module _ (w : ℕ) (rows order extreme : List Vector) (base : Base) (coordinates
 
 -- before the first stage
 pub first_refused : (w : ℕ) (rows order : List Vector) (limit told : ℕ) (a : Watched) (e : Num) (result : Work) → IsFirstRefusal e told result → IsPrimalRefusal w rows order limit told a a result
-first_refused w rows order limit told a num.Range result i = subst (IsPrimalRefusal w rows order limit told a a) (sym i) (inl (refl, none_told a))
-first_refused w rows order limit told a num.NoMemory result i = subst (IsPrimalRefusal w rows order limit told a a) (sym i) tt
+first_refused w rows order limit told a num.Range result i = subst (IsPrimalRefusal w rows order limit told a a) (sym i) (0, inl (refl, none_told a), omega (arith))
+first_refused w rows order limit told a num.NoMemory result i = subst (IsPrimalRefusal w rows order limit told a a) (sym i) (0, inl (refl, none_told a))

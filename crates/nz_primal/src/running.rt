@@ -38,7 +38,8 @@ pub struct PrimalLists<T: Scalar> {
 /// `order`, the first form first. A stage is the number of extreme generators placed and that of the
 /// facets of their cone; the first `told_before` stages are not told. TooMany comes where a simplex has
 /// more than `limit` points. The number of Range is the greater of `told_before` and the number of
-/// stages passed in this call; which numbers make it Range is not stated.
+/// stages passed in this call; which numbers make it Range is not stated. Only Stopped comes after a
+/// stop of the watch.
 pub fn primal<T: Scalar>(
     alloc: Global,
     rows: &Rows<T>,

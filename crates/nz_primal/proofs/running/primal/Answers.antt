@@ -3,6 +3,9 @@ use Rattle.nz_primal.proofs.GeneratorLemmas.{pointed_of_simplex}
 use Rattle.nz_primal.proofs.RunLemmas as run
 use Rattle.nz_primal.proofs.running.primal.Goals as goal
 
+pub returns-in-Err : goal.returns-in-Err
+returns-in-Err g c = run.first_refused (length c.args.simplex.now.places) c.args.rows.now c.args.order.now c.args.limit c.args.told_before _ c.in-Err.refusal c.before_stages.result c.before_stages.ensures
+
 pub place-requires : goal.place-requires
 place-requires g c = run.placeable_at (length c.args.simplex.now.places) c.args.rows.now c.args.order.now c.in-Ok.settled.0 c.in-Ok.settled.1.base c.in-Ok.settled.1.rays c.in-Ok.settled.1.rows c.requires.widths (pointed_of_simplex (length c.args.simplex.now.places) c.args.rows.now c.args.simplex.now.rays c.args.simplex.now.places c.requires.simplex) c.in-Ok.ensures c.rank.result c.rank.ensures.count
 
