@@ -1,0 +1,199 @@
+-- What the primal run finds in a frame, as the elements of the system and as what a watch is told of it.
+use Rattle.std.proofs.Common.{◌≡◌, inl, inr, ⊎_elim, ℕ, List, [], ◌∷◌, length, map, pos, ◌≤ℤ◌, ◌<ℤ◌, Option, None, false, IsTrue, Contains, sym, subst, arith}
+use Rattle.std.proofs.lemmas.List.{length-map}
+use Rattle.std.proofs.lemmas.Bool.{false≢true}
+use Rattle.std.specs.List.{AllByRecursion as Each}
+use Rattle.std.specs.List.Sorted.{IsPermutation}
+use Rattle.nz_spec.specs.Vectors.{Vector, HasWidth}
+use Rattle.nz_spec.specs.Order.{Pairwise, IsLexBefore, StandsBefore, IsListOf, MoreThan}
+use Rattle.nz_spec.specs.Systems.{System, IsSystem, IsMember}
+use Rattle.nz_spec.specs.Monoids.{IsPositive, IsIrreducible, IsExtreme}
+use Rattle.nz_spec.specs.Elements.{IsHilbertElement, IsHilbertBasis, AreExtreme}
+use Rattle.nz_spec.specs.Covers.{IsGoodCover}
+use Rattle.nz_spec.specs.Stages.{ArePlacings}
+use Rattle.nz_spec.proofs.ListLaws.{Each-contains}
+use Rattle.nz_linear.specs.Cones.{IsInRows}
+use Rattle.nz_linear.specs.Extreme.{IsPointed}
+use Rattle.nz_linear.specs.Coordinates.{AreCoordinates}
+use Rattle.nz_linear.proofs.Coordinates.{irreducible_forth, irreducible_back, extreme_forth, extreme_back}
+use Rattle.nz_linear.proofs.Lists.{each_map, each_of_map}
+use Rattle.nz_order.proofs.SortLaws.{IsListOf-where, Pairwise-weaker}
+use Rattle.nz_degree.specs.Degrees.{IsInOrder}
+use Rattle.nz_edge.specs.Watching.{Pair}
+use Rattle.nz_edge.specs.Telling.{Watched, HasPassedAll}
+use Rattle.nz_vec.specs.declared.answers.Work.{Work}
+use Rattle.nz_vec.specs.declared.answers.Work.TheVariants as work
+use Rattle.nz_pointed.specs.Pointed.{IsSimplexOf}
+use Rattle.nz_rays.proofs.StartLemmas.{simplex_width, simplex_at_width}
+use Rattle.nz_sweep.specs.Bases.{Base, IsBase}
+use Rattle.nz_primal.specs.Lists.{AreSeparating, IsBeforeBy, AreGenerators, ArePrimalLists, IsHeld, HasPassedFirst, IsPrimalRefusal}
+use Rattle.nz_primal.specs.Parts.{IsVectorOf}
+use Rattle.nz_primal.proofs.SumCoordinates as sum
+use Rattle.nz_primal.proofs.CoverCoordinates.{cover_forth}
+use Rattle.nz_primal.proofs.PlacingCoordinates.{placings_forth}
+use Rattle.nz_primal.proofs.ElementLemmas.{brought_back, different_mapped}
+use Rattle.nz_primal.proofs.GeneratorLemmas.{pointed_of_simplex}
+use Rattle.nz_primal.proofs.RunLemmas.{passed_where, all_where, stopped_where}
+use Rattle.nz_solve.specs.declared.refusal.SolveRefusal.{SolveRefusal}
+use Rattle.nz_solve.specs.Solutions.{AreToldOf, WasToldSome, IsCrowd, IsSolveRefusal}
+use Rattle.nz_solve.specs.Parts.{IsFrame, AreElements, AreBroughtBack, IsSameRefusal, entry_forms, vector_at}
+use Rattle.nz_solve.proofs.FrameLemmas.{frame_base, frame_wide, frame_coordinates, frame_positive, before_by_entries, entries_separate}
+
+pairwise_mapped : (R S : Vector → Vector → Type 0) (f : Vector → Vector) → ((x y : Vector) → R x y → S (f x) (f y)) → (xs : List Vector) → Pairwise R xs → Pairwise S (map f xs)
+pairwise_mapped R S f h [] r = tt
+pairwise_mapped R S f h (x ∷ xs) r = (each_of_map f (S (f x)) xs (each_map (R x) (λ y. S (f x) (f y)) xs (λ y k. h x y k) r.0), pairwise_mapped R S f h xs r.1)
+
+-- without a grading the order is that of the entries
+lexicographic : (s : System) (P : Vector → Type 0) (xs : List Vector) → s.grading ≡ None → IsListOf IsLexBefore P xs → IsListOf (StandsBefore s.grading) P xs
+lexicographic s P xs e h = subst (λ (g : Option Vector). IsListOf (StandsBefore g) P xs) (sym e) (record { in_order = Pairwise-weaker IsLexBefore (StandsBefore None) (λ x y b. b) xs h.in_order; only = h.only; each = h.each })
+
+module _ (s : System) (base : Base) (pulled : List Vector) (is : IsSystem s) (fr : IsFrame s base pulled) (no_level : s.level ≡ false) (no_grading : s.grading ≡ None) (pt : IsPointed (length base.vectors) pulled) where
+  b : IsBase base
+  b = frame_base s base pulled fr
+
+  k : AreCoordinates base.width base.vectors (IsMember s) (IsInRows (length base.vectors) pulled)
+  k = frame_coordinates s base pulled is fr
+
+  positive : IsPositive (IsMember s)
+  positive = frame_positive s base pulled is fr pt
+
+  flat : {A : Type 0} → IsTrue s.level → A
+  flat t = absurd (false≢true (subst IsTrue no_level t))
+
+  -- ---- the Hilbert basis
+  basis_back : (list list' : List Vector) → IsListOf IsLexBefore (IsIrreducible (IsInRows (length base.vectors) pulled)) list → IsPermutation (map (vector_at base) list) list' → IsInOrder None list' → IsHilbertBasis s list'
+  basis_back list list' h moved order =
+      lexicographic s (IsHilbertElement s) list' no_grading
+      (IsListOf-where IsLexBefore (IsVectorOf base (IsIrreducible (IsInRows (length base.vectors) pulled))) (IsHilbertElement s)
+      (λ x v. record { irreducible = subst (IsIrreducible (IsMember s)) v.2 (irreducible_forth base.width base.vectors (IsMember s) (IsInRows (length base.vectors) pulled) k v.0 v.1); level_zero = flat })
+      (λ x e. let r = k.back x e.irreducible.member in
+      (r.0, irreducible_back base.width base.vectors (IsMember s) (IsInRows (length base.vectors) pulled) k r.0 (k.one_each r.0 r.1) (subst (IsIrreducible (IsMember s)) (sym r.2) e.irreducible), r.2))
+      list' (brought_back base b (IsIrreducible (IsInRows (length base.vectors) pulled)) list list' (λ c i. i.member.0) h moved order))
+
+  -- ---- the extreme generators
+  extreme_mapped : (extreme : List Vector) → AreGenerators (length base.vectors) pulled (entry_forms base) extreme → AreExtreme s (map (vector_at base) extreme)
+  extreme_mapped extreme g = lexicographic s (IsExtreme (IsMember s)) (map (vector_at base) extreme) no_grading (record {
+    in_order = pairwise_mapped (IsBeforeBy (entry_forms base)) IsLexBefore (vector_at base) (λ c d h. before_by_entries base c d b h) extreme g.in_order;
+    only = each_of_map (vector_at base) (IsExtreme (IsMember s)) extreme (each_map (IsExtreme (IsInRows (length base.vectors) pulled)) (λ c. IsExtreme (IsMember s) (vector_at base c)) extreme (λ c e. extreme_forth base.width base.vectors (IsMember s) (IsInRows (length base.vectors) pulled) k c e) g.only);
+    each = λ x e. let r = k.back x e.irreducible.member in
+        subst (Contains (map (vector_at base) extreme)) r.2 (sum.mapped_has (vector_at base) extreme r.0 (g.each r.0 (extreme_back base.width base.vectors (IsMember s) (IsInRows (length base.vectors) pulled) k r.0 (k.one_each r.0 r.1) (subst (IsExtreme (IsMember s)) (sym r.2) e))));
+  })
+
+  generators_wide : (extreme : List Vector) → AreGenerators (length base.vectors) pulled (entry_forms base) extreme → Each (HasWidth (length base.vectors)) extreme
+  generators_wide extreme g = each_map (IsExtreme (IsInRows (length base.vectors) pulled)) (HasWidth (length base.vectors)) extreme (λ c e. e.irreducible.member.0) g.only
+
+  pub elements_back : (list extreme list' extreme' : List Vector) (simplices : List (List ℕ)) (forms : List (List Vector)) → ArePrimalLists (length base.vectors) pulled (entry_forms base) list extreme simplices forms → AreBroughtBack base list extreme list' extreme' → AreElements s list' extreme' simplices
+  elements_back list extreme list' extreme' simplices forms p h = record {
+    positive = positive;
+    basis = basis_back list list' p.elements h.moved h.in_order;
+    are_extreme = subst (AreExtreme s) (sym h.same) (extreme_mapped extreme p.generators);
+    cover = subst (λ (xs : List Vector). IsGoodCover s.width (IsMember s) xs simplices) (sym h.same)
+        (subst (λ (n : ℕ). IsGoodCover n (IsMember s) (map (vector_at base) extreme) simplices) fr.is_base.width
+        (cover_forth base.width base.vectors (IsMember s) (IsInRows (length base.vectors) pulled) k extreme simplices (generators_wide extreme p.generators) p.cover));
+  }
+
+  -- ---- what is told
+  told_back : (extreme : List Vector) → AreGenerators (length base.vectors) pulled (entry_forms base) extreme → (ps : List Pair) → ArePlacings (length base.vectors) extreme ps → AreToldOf s ps
+  told_back extreme g ps p = inr (
+    positive,
+    record {
+      extreme = map (vector_at base) extreme;
+      are_extreme = extreme_mapped extreme g;
+      placings = subst (λ (n : ℕ). ArePlacings n (map (vector_at base) extreme) ps) fr.is_base.width (placings_forth base.width base.vectors b.widths b.independent extreme ps (generators_wide extreme g) p);
+    },
+  )
+
+  pub all_told : (extreme : List Vector) (a c : Watched) → AreGenerators (length base.vectors) pulled (entry_forms base) extreme → HasPassedAll (ArePlacings (length base.vectors) extreme) 0 a c → HasPassedAll (AreToldOf s) 0 a c
+  all_told extreme a c g h = all_where (ArePlacings (length base.vectors) extreme) (AreToldOf s) (told_back extreme g) 0 a c h
+
+  -- ---- what is held
+  held_back : (extreme : List Vector) → Each (HasWidth (length base.vectors)) extreme → (c : Vector) → IsHeld (length base.vectors) (IsInRows (length base.vectors) pulled) extreme c → IsHeld base.width (IsMember s) (map (vector_at base) extreme) (vector_at base c)
+  held_back extreme l c (inl h) = inl (sum.mapped_has (vector_at base) extreme c h)
+  held_back extreme l c (inr h) =
+      let lv : Each (HasWidth (length base.vectors)) h.vectors = each_map (Contains extreme) (HasWidth (length base.vectors)) h.vectors (λ v m. sum_width v m) h.of_list in
+      inr (record {
+        member = k.forth c h.member;
+        vectors = map (vector_at base) h.vectors;
+        of_list = each_of_map (vector_at base) (Contains (map (vector_at base) extreme)) h.vectors (each_map (Contains extreme) (λ v. Contains (map (vector_at base) extreme) (vector_at base v)) h.vectors (λ v m. sum.mapped_has (vector_at base) extreme v m) h.of_list);
+        independent = sum.independent_forth base.width base.vectors b.widths b.independent h.vectors lv h.independent;
+        in_box = sum.sum_forth base.width base.vectors b.widths b.independent (λ m f. (pos 0 ≤ℤ f) × (f <ℤ m)) h.vectors c lv h.in_box;
+      })
+    where
+      sum_width : (v : Vector) → Contains extreme v → HasWidth (length base.vectors) v
+      sum_width v m = Each-contains (HasWidth (length base.vectors)) extreme v l m
+
+  held_width : (extreme : List Vector) → Each (HasWidth (length base.vectors)) extreme → (c : Vector) → IsHeld (length base.vectors) (IsInRows (length base.vectors) pulled) extreme c → HasWidth (length base.vectors) c
+  held_width extreme l c (inl h) = Each-contains (HasWidth (length base.vectors)) extreme c l h
+  held_width extreme l c (inr h) = h.member.0
+
+  crowd_back : (limit : ℕ) (extreme : List Vector) → AreGenerators (length base.vectors) pulled (entry_forms base) extreme → MoreThan limit (IsHeld (length base.vectors) (IsInRows (length base.vectors) pulled) extreme) → IsCrowd s limit
+  crowd_back limit extreme g m =
+      let l = generators_wide extreme g in
+      let held : MoreThan limit (IsHeld base.width (IsMember s) (map (vector_at base) extreme)) = record {
+        witnesses = map (vector_at base) m.witnesses;
+        different = different_mapped (vector_at base) (HasWidth (length base.vectors)) (sum.at_same base.width base.vectors b.widths b.independent) m.witnesses (each_map (IsHeld (length base.vectors) (IsInRows (length base.vectors) pulled) extreme) (HasWidth (length base.vectors)) m.witnesses (λ c h. held_width extreme l c h) m.only) m.different;
+        only = each_of_map (vector_at base) (IsHeld base.width (IsMember s) (map (vector_at base) extreme)) m.witnesses (each_map (IsHeld (length base.vectors) (IsInRows (length base.vectors) pulled) extreme) (λ c. IsHeld base.width (IsMember s) (map (vector_at base) extreme) (vector_at base c)) m.witnesses (λ c h. held_back extreme l c h) m.only);
+        more = (let e = length-map m.witnesses (vector_at base) in let n = m.more in omega (arith, e, n));
+      } in
+      record {
+        positive = positive;
+        extreme = map (vector_at base) extreme;
+        are_extreme = extreme_mapped extreme g;
+        more = subst (λ (n : ℕ). MoreThan limit (IsHeld n (IsMember s) (map (vector_at base) extreme))) fr.is_base.width held;
+      }
+
+  -- ---- refusals
+  some_back : (passed : ℕ) (a c : Watched) → HasPassedFirst (length base.vectors) pulled (entry_forms base) 0 passed a c → WasToldSome s a c
+  some_back passed a c h = ⊎_elim
+      (λ p. inl p.1)
+      (λ p. inr (passed, passed_where (ArePlacings (length base.vectors) p.0) (AreToldOf s) (told_back p.0 p.1) 0 passed a c false p.2))
+      h
+
+  pub primal_refused : (limit : ℕ) (a c : Watched) (e : Work) (result : SolveRefusal) → IsPrimalRefusal (length base.vectors) pulled (entry_forms base) limit 0 a c e → IsSameRefusal e result → IsSolveRefusal s limit a c result
+  primal_refused limit a c (work.Range number) result h i = subst (IsSolveRefusal s limit a c) (sym i) (some_back h.0 a c h.1)
+  primal_refused limit a c work.TooMany result h i = subst (IsSolveRefusal s limit a c) (sym i) (crowd_back limit h.0 h.1 h.3, all_told h.0 a c h.1 h.2)
+  primal_refused limit a c (work.Stopped stage) result h i = subst (IsSolveRefusal s limit a c) (sym i) (stopped_where (ArePlacings (length base.vectors) h.0) (AreToldOf s) (told_back h.0 h.1) 0 stage a c h.2)
+  primal_refused limit a c work.NoMemory result h i = subst (IsSolveRefusal s limit a c) (sym i) (some_back h.0 a c h.1)
+
+-- all told is some told
+pub some_of_all : (s : System) (a c : Watched) → HasPassedAll (AreToldOf s) 0 a c → WasToldSome s a c
+some_of_all s a c h = inr (h.passed, h.telling)
+
+-- ---- the same where the number of base vectors is that of the places of a simplex, and the order has another name
+module _ (s : System) (base : Base) (pulled : List Vector) (is : IsSystem s) (fr : IsFrame s base pulled) (places : List ℕ) (rays : List Vector) (sx : IsSimplexOf (length base.vectors) pulled places rays) (order : List Vector) (eo : order ≡ entry_forms base) where
+  same_width : length base.vectors ≡ length places
+  same_width = simplex_width (length base.vectors) pulled rays places sx
+
+  pub rows_at : Each (HasWidth (length places)) pulled
+  rows_at = subst (λ (n : ℕ). Each (HasWidth n) pulled) same_width (frame_wide s base pulled fr)
+
+  pub simplex_at : IsSimplexOf (length places) pulled places rays
+  simplex_at = simplex_at_width (length base.vectors) pulled rays places sx
+
+  pub order_at : AreSeparating (length places) order
+  order_at = subst (λ (n : ℕ). AreSeparating n order) same_width (subst (AreSeparating (length base.vectors)) (sym eo) (entries_separate base (frame_base s base pulled fr)))
+
+  pt : IsPointed (length base.vectors) pulled
+  pt = pointed_of_simplex (length base.vectors) pulled rays places sx
+
+  lists_at : (list extreme : List Vector) (simplices : List (List ℕ)) (forms : List (List Vector)) → ArePrimalLists (length places) pulled order list extreme simplices forms → ArePrimalLists (length base.vectors) pulled (entry_forms base) list extreme simplices forms
+  lists_at list extreme simplices forms p = subst (λ (n : ℕ). ArePrimalLists n pulled (entry_forms base) list extreme simplices forms) (sym same_width) (subst (λ (o : List Vector). ArePrimalLists (length places) pulled o list extreme simplices forms) eo p)
+
+  pub list_wide_at : (list extreme : List Vector) (simplices : List (List ℕ)) (forms : List (List Vector)) → ArePrimalLists (length places) pulled order list extreme simplices forms → Each (HasWidth (length base.vectors)) list
+  list_wide_at list extreme simplices forms p = each_map (IsIrreducible (IsInRows (length base.vectors) pulled)) (HasWidth (length base.vectors)) list (λ c i. i.member.0) (lists_at list extreme simplices forms p).elements.only
+
+  pub extreme_wide_at : (list extreme : List Vector) (simplices : List (List ℕ)) (forms : List (List Vector)) → ArePrimalLists (length places) pulled order list extreme simplices forms → Each (HasWidth (length base.vectors)) extreme
+  extreme_wide_at list extreme simplices forms p = each_map (IsExtreme (IsInRows (length base.vectors) pulled)) (HasWidth (length base.vectors)) extreme (λ c e. e.irreducible.member.0) (lists_at list extreme simplices forms p).generators.only
+
+  module _ (no_level : s.level ≡ false) (no_grading : s.grading ≡ None) where
+    pub elements_at : (list extreme list' extreme' : List Vector) (simplices simplices' : List (List ℕ)) (forms : List (List Vector)) → ArePrimalLists (length places) pulled order list extreme simplices forms → AreBroughtBack base list extreme list' extreme' → simplices' ≡ simplices → AreElements s list' extreme' simplices'
+    elements_at list extreme list' extreme' simplices simplices' forms p h e = subst (AreElements s list' extreme') (sym e) (elements_back s base pulled is fr no_level no_grading pt list extreme list' extreme' simplices forms (lists_at list extreme simplices forms p) h)
+
+    pub told_at : (list extreme : List Vector) (simplices : List (List ℕ)) (forms : List (List Vector)) (a c : Watched) → ArePrimalLists (length places) pulled order list extreme simplices forms × HasPassedAll (ArePlacings (length places) extreme) 0 a c → HasPassedAll (AreToldOf s) 0 a c
+    told_at list extreme simplices forms a c h = all_told s base pulled is fr no_level no_grading pt extreme a c (lists_at list extreme simplices forms h.0).generators (subst (λ (n : ℕ). HasPassedAll (ArePlacings n extreme) 0 a c) (sym same_width) h.1)
+
+    pub some_told_at : (list extreme : List Vector) (simplices : List (List ℕ)) (forms : List (List Vector)) (a c : Watched) → ArePrimalLists (length places) pulled order list extreme simplices forms × HasPassedAll (ArePlacings (length places) extreme) 0 a c → WasToldSome s a c
+    some_told_at list extreme simplices forms a c h = some_of_all s a c (told_at list extreme simplices forms a c h)
+
+    pub refused_at : (limit : ℕ) (a c : Watched) (e : Work) (result : SolveRefusal) → IsPrimalRefusal (length places) pulled order limit 0 a c e → IsSameRefusal e result → IsSolveRefusal s limit a c result
+    refused_at limit a c e result h i = primal_refused s base pulled is fr no_level no_grading pt limit a c e result (subst (λ (n : ℕ). IsPrimalRefusal n pulled (entry_forms base) limit 0 a c e) (sym same_width) (subst (λ (o : List Vector). IsPrimalRefusal (length places) pulled o limit 0 a c e) eo h)) i

@@ -1,0 +1,5 @@
+mod LatticeLemmas
+mod FrameLemmas
+mod LineLemmas
+mod AnswerLemmas
+mod OutcomeLemmas

@@ -1,0 +1,82 @@
+ghost use Rattle.std.specs.Prelude.{◌≡◌, length, MatchResult};
+ghost use Rattle.nz_pointed.specs.Pointed.{IsSimplexOf};
+ghost use Rattle.nz_edge.specs.Telling.{HasPassedAll};
+ghost use Rattle.nz_solve.specs.Solutions.{IsPlain, IsSolution, AreToldOf, IsSolveRefusal};
+ghost use Rattle.nz_solve.specs.Parts.{IsFrame};
+
+use crate::choosing::outcome;
+use crate::forms::entry_forms;
+use crate::frames::{Frame, frame_of};
+use crate::lines::line_refusal;
+use crate::refusal::{SolveRefusal, unfinished, unreckoned};
+use crate::returning::elements_of;
+use nz_blocks::Outcome;
+use nz_edge::Watch;
+use nz_pointed::{Pointed, Simplex, start};
+use nz_primal::primal;
+use nz_system::System;
+use std::alloc::Global;
+
+/// Solves a system without a level, a grading or asked vectors by the primal algorithm: its irreducible
+/// elements, its extreme generators, their support forms and equations, and a cover by simplices of
+/// them, each where its goal is on.
+///
+/// The watch is told the stages of placing the extreme generators, and nothing where there is a line.
+/// `limit` is the most points of one simplex. Which numbers make it Range is not stated. Only Stopped
+/// comes after a stop of the watch.
+pub fn solve(
+    alloc: Global,
+    system: &System,
+    limit: u32,
+    watch: &mut Box<dyn Watch>,
+) -> Result<Outcome, SolveRefusal>
+    requires { IsPlain system.now }
+    ensures { MatchResult result (λ o. IsSolution system.now o × HasPassedAll (AreToldOf system.now.system) 0 (record { told = told watch.old; patience = patience watch.old; stops = stops watch.old }) (record { told = told watch.new; patience = patience watch.new; stops = stops watch.new })) (λ e. IsSolveRefusal system.now.system limit (record { told = told watch.old; patience = patience watch.old; stops = stops watch.old }) (record { told = told watch.new; patience = patience watch.new; stops = stops watch.new }) e) }
+{
+    system.kept();
+    let frame = match frame_of(alloc, system) {
+        Ok(frame) => frame,
+        Err(refusal) => return Err(unreckoned(refusal)),
+    };
+    let pointed = match start(alloc, &frame.rows, frame.base.rank()) {
+        Ok(pointed) => pointed,
+        Err(refusal) => return Err(unreckoned(refusal)),
+    };
+    match pointed {
+        Pointed::Simplex(simplex) => solved(alloc, system, &frame, &simplex, limit, watch),
+        Pointed::Line(line) => Err(line_refusal(alloc, &frame.base, &line)),
+    }
+}
+
+// The outcome of a system without a line.
+fn solved(
+    alloc: Global,
+    system: &System,
+    frame: &Frame<i128>,
+    simplex: &Simplex<i128>,
+    limit: u32,
+    watch: &mut Box<dyn Watch>,
+) -> Result<Outcome, SolveRefusal>
+    requires plain { IsPlain system.now }
+    requires frame { IsFrame system.now.system frame.now.base frame.now.rows }
+    requires simplex { IsSimplexOf (length frame.now.base.vectors) frame.now.rows simplex.now.places simplex.now.rays }
+    ensures { MatchResult result (λ o. IsSolution system.now o × HasPassedAll (AreToldOf system.now.system) 0 (record { told = told watch.old; patience = patience watch.old; stops = stops watch.old }) (record { told = told watch.new; patience = patience watch.new; stops = stops watch.new })) (λ e. IsSolveRefusal system.now.system limit (record { told = told watch.old; patience = patience watch.old; stops = stops watch.old }) (record { told = told watch.new; patience = patience watch.new; stops = stops watch.new }) e) }
+{
+    system.kept();
+    let order = match entry_forms(alloc, &frame.base, system.width as usize) {
+        Ok(order) => order,
+        Err(refusal) => return Err(unreckoned(refusal)),
+    };
+    let lists = match primal(alloc, &frame.rows, simplex, &order, limit, 0, watch) {
+        Ok(lists) => lists,
+        Err(refusal) => return Err(unfinished(refusal)),
+    };
+    let elements = match elements_of(alloc, &frame.base, lists) {
+        Ok(elements) => elements,
+        Err(refusal) => return Err(unreckoned(refusal)),
+    };
+    match outcome(alloc, system, elements) {
+        Ok(outcome) => Ok(outcome),
+        Err(refusal) => Err(unreckoned(refusal)),
+    }
+}

@@ -1,0 +1,176 @@
+//! Systems of files, solved: what the goals ask, what the watch is told, and lines.
+ghost use Rattle.std.specs.Prelude.{IsTrue, IfSome, ◌≤◌};
+ghost use Rattle.nz_solve.specs.Solutions.{IsPlain};
+
+use crate::{SolveRefusal, solve};
+use nz_blocks::blocks;
+use nz_edge::{MemWatch, Watch};
+use nz_input::{Goals, Mode, read};
+use nz_system::{System, system_of};
+use nz_vec::Ints;
+use std::alloc::Global;
+use std::test::Fail;
+
+// No level, no grading, no asked vectors, and the primal algorithm.
+fn is_plain(system: &System) -> bool
+    ensures { IsTrue result → IsPlain system.now }
+{
+    if system.level {
+        return false;
+    }
+    if system.grading.is_some() {
+        return false;
+    }
+    if system.asked.is_some() {
+        return false;
+    }
+    system.mode == Mode::Primal
+}
+
+// The number of the call that asks to stop, after so many that do not.
+fn stop_at(passed: Option<u8>) -> Option<u64>
+    ensures { IfSome result (λ number. 1 ≤ number) }
+{
+    match passed {
+        Some(passed) => Some(passed as u64 + 1),
+        None => None,
+    }
+}
+
+fn put_line(text: &mut String, line: &Ints) -> Result<(), Fail> {
+    text.push_str("line:")?;
+    for place in 0..line.len() {
+        write!(text, " {}", line.at(place))?;
+    }
+    text.push_str("\n")?;
+    Ok(())
+}
+
+fn put_told(text: &mut String, watch: &Box<dyn Watch>) -> Result<(), Fail> {
+    text.push_str("told:")?;
+    for place in 0..10 {
+        match watch.pair(place) {
+            Some((number, count)) => write!(text, " {number} {count}")?,
+            None => return Ok(()),
+        }
+    }
+    Ok(())
+}
+
+// The text of the outcome and what the watch was told, or the refusal.
+fn answer(alloc: Global, system: &System, limit: u32, passed: Option<u8>) -> Result<String, Fail>
+    requires { IsPlain system.now }
+{
+    let watch = MemWatch::new(alloc, 10, stop_at(passed))?;
+    let mut watch: Box<dyn Watch> = Box::new(alloc, watch)?;
+    let mut text = String::new(alloc);
+    match solve(alloc, system, limit, &mut watch) {
+        Ok(outcome) => {
+            let output = blocks(alloc, &outcome)?;
+            match std::str::from_utf8(output.as_slice()) {
+                Ok(output) => text.push_str(output)?,
+                Err(_) => return Err(Fail::from("no text")),
+            }
+        }
+        Err(SolveRefusal::Line(line)) => put_line(&mut text, &line)?,
+        Err(SolveRefusal::Range) => text.push_str("range\n")?,
+        Err(SolveRefusal::TooMany) => text.push_str("too many\n")?,
+        Err(SolveRefusal::Stopped { stage }) => write!(text, "stopped {stage}\n")?,
+        Err(SolveRefusal::NoMemory) => return Err(Fail::from("no memory")),
+    }
+    put_told(&mut text, &watch)?;
+    Ok(text)
+}
+
+fn solved(alloc: Global, text: &str, limit: u32, passed: Option<u8>) -> Result<String, Fail> {
+    let file = match read(alloc, text.as_bytes()) {
+        Ok(file) => file,
+        Err(_) => return Err(Fail::from("no file")),
+    };
+    let system = match system_of(alloc, &file, &Goals::new(alloc)) {
+        Ok(system) => system,
+        Err(_) => return Err(Fail::from("no system")),
+    };
+    if is_plain(&system) {
+        answer(alloc, &system, limit, passed)
+    } else {
+        Err(Fail::from("not plain"))
+    }
+}
+
+#[test]
+fn worked_files(rt: HostRuntime) -> Result<(), Fail> {
+    for (text, limit, passed, expected) in [
+        (
+            "amb_space 2 congruences 1 1 1 2",
+            4,
+            None,
+            "amb_space 2\nhomogeneous\n\n3 Hilbert basis elements:\n0 2\n1 1\n2 0\ntold: 2 2",
+        ),
+        (
+            "amb_space 2 cone 2 1 3 2 1 HilbertBasis ExtremeRays SupportHyperplanes Triangulation",
+            7,
+            None,
+            "amb_space 2\nhomogeneous\n\n4 Hilbert basis elements:\n1 1\n1 2\n1 3\n2 1\n\n2 extreme rays:\n1 3\n2 1\n\n2 support hyperplanes:\n-1  2\n 3 -1\n\n0 equations:\n\n2 extreme generators:\n1 3\n2 1\n\n1 simplices:\n1 2\ntold: 2 2",
+        ),
+        ("amb_space 2 cone 2 1 3 2 1", 3, None, "too many\ntold: 2 2"),
+        (
+            "amb_space 2 cone 2 1 3 2 1",
+            3,
+            Some(0),
+            "stopped 2\ntold: 2 2",
+        ),
+        (
+            "amb_space 2 cone_and_lattice 2 1 0 1 2",
+            9,
+            None,
+            "amb_space 2\nhomogeneous\n\n2 Hilbert basis elements:\n1 0\n1 2\ntold: 2 2",
+        ),
+        (
+            "amb_space 2 equations 1 1 1 HilbertBasis ExtremeRays SupportHyperplanes Triangulation",
+            9,
+            Some(0),
+            "amb_space 2\nhomogeneous\n\n0 Hilbert basis elements:\n\n0 extreme rays:\n\n0 support hyperplanes:\n\n2 equations:\n1 0\n0 1\n\n0 extreme generators:\n\n0 simplices:\ntold:",
+        ),
+        (
+            "amb_space 2 inequalities 1 1 0",
+            9,
+            Some(0),
+            "line: 0 1\ntold:",
+        ),
+        (
+            "amb_space 3 inequalities 1 0 0 1 equations 1 1 2 0 congruences 1 1 0 0 3",
+            9,
+            Some(0),
+            "line: 6 -3 0\ntold:",
+        ),
+        (
+            "amb_space 2 cone 1 1 2 HilbertBasis SupportHyperplanes",
+            9,
+            None,
+            "amb_space 2\nhomogeneous\n\n1 Hilbert basis elements:\n1 2\n\n1 support hyperplanes:\n1 0\n\n1 equations:\n-2 1\ntold: 1 1",
+        ),
+        (
+            "amb_space 3 inequalities 4 1 0 0 0 1 0 -1 0 1 0 -1 1 HilbertBasis ExtremeRays SupportHyperplanes",
+            9,
+            Some(2),
+            "amb_space 3\nhomogeneous\n\n4 Hilbert basis elements:\n0 0 1\n0 1 1\n1 0 1\n1 1 1\n\n4 extreme rays:\n0 0 1\n0 1 1\n1 0 1\n1 1 1\n\n4 support hyperplanes:\n-1  0 1\n 0 -1 1\n 0  1 0\n 1  0 0\n\n0 equations:\ntold: 3 3 4 4",
+        ),
+        (
+            "amb_space 3 inequalities 4 1 0 0 0 1 0 -1 0 1 0 -1 1",
+            9,
+            Some(1),
+            "stopped 4\ntold: 3 3 4 4",
+        ),
+        (
+            "amb_space 3 cone 3 1000000000000000000 1 0 0 1000000000000000000 1 1 0 1000000000000000000",
+            9,
+            Some(0),
+            "range\ntold:",
+        ),
+    ] {
+        let got = solved(rt.alloc(), text, limit, passed)?;
+        assert_eq!(rt; got.as_str(), expected, "of {text}");
+    }
+    Ok(())
+}
