@@ -81,7 +81,12 @@ one_refused bound limit rays places sides forms NoMemory q r = tt
 
 pub walk_refused : (limit : ℕ) (rays : List Vector) (simplices : List (List ℕ)) (i : ℕ) (places : List ℕ) (e : Work) → i < length simplices → places ≡ get_or simplices i [] → IsOneWalkRefusal limit rays places e → IsWalkRefusal limit rays simplices e
 walk_refused limit rays simplices i places (Range told) l q r = tt
-walk_refused limit rays simplices i places TooMany l q r = record { places = places; of_cover = subst (Contains simplices) (sym q) (Contains-get_or simplices i [] l); more = r }
+walk_refused limit rays simplices i places TooMany l q r = record {
+  witnesses = r.witnesses;
+  different = r.different;
+  only = each_map (IsPoint (length places) (vectors_at rays places)) (λ x. Contains rays x ⊎ IsPointOf rays simplices x) r.witnesses (λ x p. inr (places, subst (Contains simplices) (sym q) (Contains-get_or simplices i [] l), p)) r.only;
+  more = r.more;
+}
 walk_refused limit rays simplices i places (Stopped stage) l q r = r
 walk_refused limit rays simplices i places NoMemory l q r = tt
 

@@ -1,5 +1,7 @@
 -- From a placed cone in second coordinates to its irreducible elements.
-use Rattle.std.proofs.Common.{◌≡◌, ◌≢◌, ◌⊎◌, ⊎_elim, ℕ, suc, None, List, [], ◌∷◌, length, map, Contains, refl, sym, ap, ◌∙◌, subst}
+use Rattle.std.proofs.Common.{◌≡◌, ◌≢◌, ◌⊎◌, ⊎_elim, ℕ, suc, ◌<◌, ◌≤◌, None, List, [], ◌∷◌, length, map, Contains, refl, sym, ap, ◌∙◌, subst, arith}
+use Rattle.std.proofs.lemmas.List.{length-map}
+use Rattle.std.proofs.lemmas.List.Sorted.{length_permutation}
 use Rattle.std.specs.List.{AllByRecursion as Each, AllZip}
 use Rattle.std.specs.List.Sorted.{IsPermutation}
 use Rattle.nz_spec.specs.Vectors.{Vector, combination, zero_vector, HasWidth}
@@ -31,7 +33,7 @@ use Rattle.nz_degree.specs.Degrees.{IsInOrder}
 use Rattle.nz_degree.proofs.ElementLaws.{sorted_is_list}
 use Rattle.nz_cover.specs.Placing.{IsInConeOf}
 use Rattle.nz_sweep.specs.Bases.{Base, IsBase}
-use Rattle.nz_primal.specs.Parts.{IsSecondCone, IsVectorOf, AreFullSimplices, IsPointOf, AreCandidates}
+use Rattle.nz_primal.specs.Parts.{IsSecondCone, IsVectorOf, AreFullSimplices, IsPointOf, IsCrowded, AreCandidates}
 use Rattle.nz_primal.proofs.DualLemmas.{dual_pair, dual_only_zero, zip_length}
 use Rattle.nz_primal.proofs.CoverCoordinates.{vectors_wide, vectors_listed}
 use Rattle.nz_primal.proofs.SumCoordinates.{image_of, mapped_has, at_same, at_widths}
@@ -130,7 +132,23 @@ module _ (w : ℕ) (rows rays : List Vector) (k : IsSecondCone w rows rays) wher
         (candidates_generate w (HasWidth w) (whole_lattice w) rows rays simplices (Each-from_contains Member rays ray_member) (stage_cover simplices good) x m))
         kept h)
 
+    -- what no other candidate reduces is a ray or a point
+    pub kept_crowded : (limit : ℕ) (kept : List Vector) → IsListOf IsLexBefore (IsUnreduced rows list) kept → limit < length kept → IsCrowded limit rays simplices
+    kept_crowded limit kept h l = record {
+      witnesses = kept;
+      different = Pairwise-different IsLexBefore (λ x b. IsLexBefore-asymmetric x x b b) kept h.in_order;
+      only = each_map (IsUnreduced rows list) (λ x. Contains rays x ⊎ IsPointOf rays simplices x) kept (λ x u. Each-contains (λ y. Contains rays y ⊎ IsPointOf rays simplices y) list x c.only u.candidate) h.only;
+      more = l;
+    }
+
 -- ---- back from coordinates
+pub kept_within : (b : Base) (kept list : List Vector) (limit : ℕ) → IsPermutation (map (λ c. combination b.width c b.vectors) kept) list → length kept ≤ limit → length list ≤ limit
+kept_within b kept list limit moved l =
+    let at : Vector → Vector = λ c. combination b.width c b.vectors in
+    let e = length_permutation (map at kept) list moved in
+    let m = length-map kept at in
+    omega (arith, e, m, l)
+
 pub different_mapped : (f : Vector → Vector) (P : Vector → Type 0) → ((x y : Vector) → P x → P y → f x ≡ f y → x ≡ y) → (xs : List Vector) → Each P xs → Pairwise ◌≢◌ xs → Pairwise ◌≢◌ (map f xs)
 different_mapped f P one [] h d = tt
 different_mapped f P one (x ∷ xs) h d = (

@@ -1,5 +1,5 @@
 -- From second coordinates to what the primal run answers.
-use Rattle.std.proofs.Common.{◌≡◌, inl, inr, ℕ, suc, ◌+◌, ◌-◌, max, List, [], ◌∷◌, length, map, ℤ, pos, ◌≤ℤ◌, ◌<ℤ◌, Contains, Bool, false, true, refl, sym, ap, ap₂, ◌∙◌, subst, arith}
+use Rattle.std.proofs.Common.{◌≡◌, ◌⊎◌, inl, inr, ℕ, suc, ◌+◌, ◌-◌, max, List, [], ◌∷◌, length, map, ℤ, pos, ◌≤ℤ◌, ◌<ℤ◌, Contains, Bool, false, true, refl, sym, ap, ap₂, ◌∙◌, subst, arith}
 use Rattle.std.proofs.lemmas.List.{length-map, length-append}
 use Rattle.std.proofs.lemmas.List.FromFn.{length-range_with_len}
 use Rattle.std.specs.List.{AllByRecursion as Each, AllZip, range_with_len}
@@ -32,7 +32,7 @@ use Rattle.nz_cover.specs.Placing.{ArePlaceable, IsInConeOf, IsPlaced, IsPlaceRe
 use Rattle.nz_sweep.specs.Bases.{Base, IsBase}
 use Rattle.nz_primal.specs.Lists.{ArePrimalLists, IsHeld, IsPrimalRefusal, HasPassedFirst}
 use Rattle.nz_primal.specs.Second.{IsFaceBase, HaveCoordinates}
-use Rattle.nz_primal.specs.Parts.{IsSettled, IsSecondCone, IsVectorOf, HasFullSimplex, IsWalkRefusal, IsFirstRefusal, IsLastRefusal, stage_count}
+use Rattle.nz_primal.specs.Parts.{IsSettled, IsSecondCone, IsVectorOf, IsPointOf, IsCrowded, IsWalkRefusal, IsFirstRefusal, IsLastRefusal, stage_count}
 use Rattle.nz_primal.proofs.SumCoordinates as sum
 use Rattle.nz_primal.proofs.CoverCoordinates.{vectors_wide, vectors_listed, cover_forth}
 use Rattle.nz_primal.proofs.SecondLemmas as second
@@ -179,15 +179,19 @@ module _ (w : ℕ) (rows order extreme : List Vector) (base : Base) (coordinates
         }),
       )
 
-  more_held : (limit : ℕ) (simplices : List (List ℕ)) → Each (IsSimplex (length base.vectors) coordinates) simplices → HasFullSimplex limit coordinates simplices → MoreThan limit (IsHeld w (IsInRows w rows) extreme)
+  -- a ray or a point of a simplex, as a vector of the whole
+  held_at : (simplices : List (List ℕ)) → Each (IsSimplex (length base.vectors) coordinates) simplices → (c : Vector) → Contains coordinates c ⊎ IsPointOf coordinates simplices c → HasWidth (length base.vectors) c × IsHeld w (IsInRows w rows) extreme (at c)
+  held_at simplices g c (inl r) = (Each-contains (HasWidth (length base.vectors)) coordinates c have.widths r, inl (subst (λ (vs : List Vector). Contains vs (at c)) have.same (sum.mapped_has at coordinates c r)))
+  held_at simplices g c (inr p) = point_held simplices p.0 (Each-contains (IsSimplex (length base.vectors) coordinates) simplices p.0 g p.1) c p.2
+
+  more_held : (limit : ℕ) (simplices : List (List ℕ)) → Each (IsSimplex (length base.vectors) coordinates) simplices → IsCrowded limit coordinates simplices → MoreThan limit (IsHeld w (IsInRows w rows) extreme)
   more_held limit simplices g h =
-      let s = Each-contains (IsSimplex (length base.vectors) coordinates) simplices h.places g h.of_cover in
-      let each = each_map (IsPoint (length h.places) (vectors_at coordinates h.places)) (λ c. HasWidth (length base.vectors) c × IsHeld w (IsInRows w rows) extreme (at c)) h.more.witnesses (λ c p. point_held simplices h.places s c p) h.more.only in
+      let each = each_map (λ c. Contains coordinates c ⊎ IsPointOf coordinates simplices c) (λ c. HasWidth (length base.vectors) c × IsHeld w (IsInRows w rows) extreme (at c)) h.witnesses (held_at simplices g) h.only in
       record {
-        witnesses = map at h.more.witnesses;
-        different = different_mapped at (HasWidth (length base.vectors)) (sum.at_same w base.vectors fb.widths fb.independent) h.more.witnesses (each_map (λ c. HasWidth (length base.vectors) c × IsHeld w (IsInRows w rows) extreme (at c)) (HasWidth (length base.vectors)) h.more.witnesses (λ c p. p.0) each) h.more.different;
-        only = each_of_map at (IsHeld w (IsInRows w rows) extreme) h.more.witnesses (each_map (λ c. HasWidth (length base.vectors) c × IsHeld w (IsInRows w rows) extreme (at c)) (λ c. IsHeld w (IsInRows w rows) extreme (at c)) h.more.witnesses (λ c p. p.1) each);
-        more = (let e = length-map h.more.witnesses at in let m = h.more.more in omega (arith, e, m));
+        witnesses = map at h.witnesses;
+        different = different_mapped at (HasWidth (length base.vectors)) (sum.at_same w base.vectors fb.widths fb.independent) h.witnesses (each_map (λ c. HasWidth (length base.vectors) c × IsHeld w (IsInRows w rows) extreme (at c)) (HasWidth (length base.vectors)) h.witnesses (λ c p. p.0) each) h.different;
+        only = each_of_map at (IsHeld w (IsInRows w rows) extreme) h.witnesses (each_map (λ c. HasWidth (length base.vectors) c × IsHeld w (IsInRows w rows) extreme (at c)) (λ c. IsHeld w (IsInRows w rows) extreme (at c)) h.witnesses (λ c p. p.1) each);
+        more = (let e = length-map h.witnesses at in let m = h.more in omega (arith, e, m));
       }
 
   pub walk_refused : (limit told : ℕ) (a b : Watched) (simplices : List (List ℕ)) (forms : List (List Vector)) (e result : Work) → IsPlaced (length base.vectors) coordinates simplices forms → HasPassedAll (ArePlacings (length base.vectors) coordinates) told a b → IsWalkRefusal limit coordinates simplices e → IsLastRefusal e told (stage_count (length base.vectors) (length coordinates)) result → IsPrimalRefusal w rows order limit told a b result

@@ -55,16 +55,14 @@ pub record ArePointsOf (rays : List Vector) (places : List ℕ) (list : List Vec
   pub only : Each (IsPoint (length places) (vectors_at rays places)) list
   pub each : (x : Vector) → IsPoint (length places) (vectors_at rays places) x → Contains list x
 
--- one simplex has more points than the limit
-pub record HasFullSimplex (limit : ℕ) (rays : List Vector) (simplices : List (List ℕ)) : Type 0 where
-  pub places : List ℕ
-  pub of_cover : Contains simplices places
-  pub more : MoreThan limit (IsPoint (length places) (vectors_at rays places))
+-- more vectors than the limit are rays, or points of the simplices
+abbrev pub IsCrowded : ℕ → List Vector → List (List ℕ) → Type 0
+IsCrowded limit rays simplices = MoreThan limit (λ x. Contains rays x ⊎ IsPointOf rays simplices x)
 
--- too many only where one simplex has more points than the limit; the walks tell no stages
+-- too many only where more than the limit are rays or points; the walks tell no stages
 abbrev pub IsWalkRefusal : ℕ → List Vector → List (List ℕ) → Work → Type 0
 IsWalkRefusal limit rays simplices (Range told) = Unit {0}
-IsWalkRefusal limit rays simplices TooMany = HasFullSimplex limit rays simplices
+IsWalkRefusal limit rays simplices TooMany = IsCrowded limit rays simplices
 IsWalkRefusal limit rays simplices (Stopped stage) = ⊥
 IsWalkRefusal limit rays simplices NoMemory = Unit {0}
 

@@ -1,5 +1,5 @@
 // The irreducible elements, from a cover in second coordinates.
-ghost use Rattle.std.specs.Prelude.{◌≡◌, None, ℕ, ℤ, List, map, length, IfOk, MatchResult};
+ghost use Rattle.std.specs.Prelude.{◌≡◌, ◌≤◌, None, ℕ, ℤ, List, map, length, IfOk, MatchResult};
 ghost use Rattle.std.specs.List.{AllByRecursion as Each};
 ghost use Rattle.std.specs.List.Sorted.{IsPermutation};
 ghost use Rattle.nz_spec.specs.Vectors.{HasWidth, combination};
@@ -22,7 +22,7 @@ use nz_vec::{Num, Rows, Scalar, Work};
 use std::alloc::Global;
 
 /// The vectors whose coordinates are the irreducible elements in second coordinates, lexicographically
-/// and each once.
+/// and each once. They are no more than the limit.
 pub(crate) fn elements<T: Scalar>(
     alloc: Global,
     second: &Second<T>,
@@ -32,7 +32,8 @@ pub(crate) fn elements<T: Scalar>(
     requires base { IsBase second.now.base }
     requires cone { IsSecondCone (length second.now.base.vectors) second.now.rows second.now.rays }
     requires placed { IsPlaced (length second.now.base.vectors) second.now.rays cover.now.simplices cover.now.forms }
-    ensures { MatchResult result (IsListOf IsLexBefore (IsVectorOf second.now.base (IsIrreducible (IsInRows (length second.now.base.vectors) second.now.rows)))) (IsWalkRefusal limit second.now.rays cover.now.simplices) }
+    ensures lists { MatchResult result (IsListOf IsLexBefore (IsVectorOf second.now.base (IsIrreducible (IsInRows (length second.now.base.vectors) second.now.rows)))) (IsWalkRefusal limit second.now.rays cover.now.simplices) }
+    ensures within { IfOk result (λ list. length list ≤ limit) }
 {
     let list = match candidates(alloc, &second.rays, cover, limit) {
         Ok(list) => list,
@@ -42,6 +43,9 @@ pub(crate) fn elements<T: Scalar>(
         Ok(kept) => kept,
         Err(refusal) => return Err(walk_refusal(refusal)),
     };
+    if kept.len() > limit as usize {
+        return Err(Work::TooMany);
+    }
     match brought_back(alloc, &second.base, &kept) {
         Ok(list) => Ok(list),
         Err(refusal) => Err(walk_refusal(refusal)),

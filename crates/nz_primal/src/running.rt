@@ -1,5 +1,5 @@
 // The primal run.
-ghost use Rattle.std.specs.Prelude.{◌≡◌, length, MatchResult, IfOk};
+ghost use Rattle.std.specs.Prelude.{◌≡◌, ◌≤◌, length, MatchResult, IfOk};
 ghost use Rattle.std.specs.List.{AllByRecursion as Each};
 ghost use Rattle.nz_spec.specs.Vectors.{HasWidth};
 ghost use Rattle.nz_spec.specs.Stages.{ArePlacings};
@@ -37,9 +37,9 @@ pub struct PrimalLists<T: Scalar> {
 /// `simplex` has the first independent rows. The extreme generators stand by the values of the forms of
 /// `order`, the first form first. A stage is the number of extreme generators placed and that of the
 /// facets of their cone; the first `told_before` stages are not told. TooMany comes where a simplex has
-/// more than `limit` points. The number of Range is the greater of `told_before` and the number of
-/// stages passed in this call; which numbers make it Range is not stated. Only Stopped comes after a
-/// stop of the watch.
+/// more than `limit` points, or there are more irreducible elements. The number of Range is the
+/// greater of `told_before` and the number of stages passed in this call; which numbers make it Range
+/// is not stated. Only Stopped comes after a stop of the watch.
 pub fn primal<T: Scalar>(
     alloc: Global,
     rows: &Rows<T>,
@@ -52,7 +52,8 @@ pub fn primal<T: Scalar>(
     requires widths { Each (HasWidth (length simplex.now.places)) rows.now }
     requires simplex { IsSimplexOf (length simplex.now.places) rows.now simplex.now.places simplex.now.rays }
     requires order { AreSeparating (length simplex.now.places) order.now }
-    ensures { MatchResult result (λ p. ArePrimalLists (length simplex.now.places) rows.now order.now p.list p.extreme p.cover.simplices p.cover.forms × HasPassedAll (ArePlacings (length simplex.now.places) p.extreme) told_before (record { told = told watch.old; patience = patience watch.old; stops = stops watch.old }) (record { told = told watch.new; patience = patience watch.new; stops = stops watch.new })) (λ e. IsPrimalRefusal (length simplex.now.places) rows.now order.now limit told_before (record { told = told watch.old; patience = patience watch.old; stops = stops watch.old }) (record { told = told watch.new; patience = patience watch.new; stops = stops watch.new }) e) }
+    ensures lists { MatchResult result (λ p. ArePrimalLists (length simplex.now.places) rows.now order.now p.list p.extreme p.cover.simplices p.cover.forms × HasPassedAll (ArePlacings (length simplex.now.places) p.extreme) told_before (record { told = told watch.old; patience = patience watch.old; stops = stops watch.old }) (record { told = told watch.new; patience = patience watch.new; stops = stops watch.new })) (λ e. IsPrimalRefusal (length simplex.now.places) rows.now order.now limit told_before (record { told = told watch.old; patience = patience watch.old; stops = stops watch.old }) (record { told = told watch.new; patience = patience watch.new; stops = stops watch.new }) e) }
+    ensures within { IfOk result (λ p. length p.list ≤ limit) }
 {
     let (extreme, second) = match settled(alloc, rows, simplex, order) {
         Ok(settled) => settled,

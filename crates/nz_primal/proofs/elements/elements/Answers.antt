@@ -1,9 +1,9 @@
-use Rattle.std.proofs.Common.{length}
+use Rattle.std.proofs.Common.{length, arith}
 use Rattle.nz_spec.specs.Monoids.{IsIrreducible}
 use Rattle.nz_spec.specs.Vectors.{HasWidth}
 use Rattle.nz_linear.specs.Cones.{IsInRows}
 use Rattle.nz_linear.proofs.Lists.{each_map}
-use Rattle.nz_primal.proofs.ElementLemmas.{full_simplices, candidates_separated, kept_irreducible, brought_back}
+use Rattle.nz_primal.proofs.ElementLemmas.{full_simplices, candidates_separated, kept_irreducible, kept_crowded, kept_within, brought_back}
 use Rattle.nz_primal.proofs.elements.elements.Goals as goal
 
 pub candidates-requires : goal.candidates-requires
@@ -12,20 +12,26 @@ candidates-requires g c = full_simplices (length c.args.second.now.base.vectors)
 pub irreducibles-requires : goal.irreducibles-requires
 irreducibles-requires g c = candidates_separated (length c.args.second.now.base.vectors) c.args.second.now.rows c.args.second.now.rays c.requires.cone c.args.cover.now.simplices c.requires.placed.cover c.in-Ok.list c.in-Ok.ensures
 
-pub returns-in-Err-irreducibles : goal.returns-in-Err-irreducibles
-returns-in-Err-irreducibles g c = c.walk_refusal.ensures c.args.limit c.args.second.now.rays c.args.cover.now.simplices
+pub returns-in-Err-irreducibles-clause-lists : goal.returns-in-Err-irreducibles-clause-lists
+returns-in-Err-irreducibles-clause-lists g c = c.walk_refusal.ensures c.args.limit c.args.second.now.rays c.args.cover.now.simplices
+
+pub returns-then-len-limit-clause-lists : goal.returns-then-len-limit-clause-lists
+returns-then-len-limit-clause-lists g c = kept_crowded (length c.args.second.now.base.vectors) c.args.second.now.rows c.args.second.now.rays c.requires.cone c.args.cover.now.simplices c.requires.placed.cover c.in-Ok.list c.in-Ok.ensures c.args.limit c.in-Ok-irreducibles.kept c.in-Ok-irreducibles.ensures (omega (arith, c.if-len-limit.true, c.len.ensures))
 
 pub brought_back-requires : goal.brought_back-requires
 brought_back-requires g c =
     let w = length c.args.second.now.base.vectors in
     record { widths = each_map (IsIrreducible (IsInRows w c.args.second.now.rows)) (HasWidth w) c.in-Ok-irreducibles.kept (λ x i. i.member.0) (kept_irreducible w c.args.second.now.rows c.args.second.now.rays c.requires.cone c.args.cover.now.simplices c.requires.placed.cover c.in-Ok.list c.in-Ok.ensures c.in-Ok-irreducibles.kept c.in-Ok-irreducibles.ensures).only }
 
-pub returns-in-Ok-brought_back : goal.returns-in-Ok-brought_back
-returns-in-Ok-brought_back g c =
+pub returns-in-Ok-brought_back-clause-lists : goal.returns-in-Ok-brought_back-clause-lists
+returns-in-Ok-brought_back-clause-lists g c =
     let w = length c.args.second.now.base.vectors in
     brought_back c.args.second.now.base c.requires.base (IsIrreducible (IsInRows w c.args.second.now.rows)) c.in-Ok-irreducibles.kept c.in-Ok-brought_back.list (λ x i. i.member.0)
     (kept_irreducible w c.args.second.now.rows c.args.second.now.rays c.requires.cone c.args.cover.now.simplices c.requires.placed.cover c.in-Ok.list c.in-Ok.ensures c.in-Ok-irreducibles.kept c.in-Ok-irreducibles.ensures)
     c.in-Ok-brought_back.ensures.same c.in-Ok-brought_back.ensures.order
 
-pub returns : goal.returns
-returns g c = c.walk_refusal-in-Err-brought_back.ensures c.args.limit c.args.second.now.rays c.args.cover.now.simplices
+pub returns-in-Ok-brought_back-clause-within : goal.returns-in-Ok-brought_back-clause-within
+returns-in-Ok-brought_back-clause-within g c = kept_within c.args.second.now.base c.in-Ok-irreducibles.kept c.in-Ok-brought_back.list c.args.limit c.in-Ok-brought_back.ensures.same (omega (arith, c.if-len-limit.false, c.len.ensures))
+
+pub returns-clause-lists : goal.returns-clause-lists
+returns-clause-lists g c = c.walk_refusal-in-Err-brought_back.ensures c.args.limit c.args.second.now.rays c.args.cover.now.simplices
