@@ -1,6 +1,7 @@
 -- What the primal run finds in a frame, as the elements of the system and as what a watch is told of it.
-use Rattle.std.proofs.Common.{◌≡◌, inl, inr, ⊎_elim, ℕ, List, [], ◌∷◌, length, map, pos, ◌≤ℤ◌, ◌<ℤ◌, Option, None, false, IsTrue, Contains, sym, subst, arith}
+use Rattle.std.proofs.Common.{◌≡◌, inl, inr, ⊎_elim, ℕ, ◌≤◌, List, [], ◌∷◌, length, map, pos, ◌≤ℤ◌, ◌<ℤ◌, Option, None, false, IsTrue, Contains, sym, subst, arith}
 use Rattle.std.proofs.lemmas.List.{length-map}
+use Rattle.std.proofs.lemmas.List.Sorted.{length_permutation}
 use Rattle.std.proofs.lemmas.Bool.{false≢true}
 use Rattle.std.specs.List.{AllByRecursion as Each}
 use Rattle.std.specs.List.Sorted.{IsPermutation}
@@ -35,7 +36,7 @@ use Rattle.nz_primal.proofs.ElementLemmas.{brought_back, different_mapped}
 use Rattle.nz_primal.proofs.GeneratorLemmas.{pointed_of_simplex}
 use Rattle.nz_primal.proofs.RunLemmas.{passed_where, all_where, stopped_where}
 use Rattle.nz_solve.specs.declared.refusal.SolveRefusal.{SolveRefusal}
-use Rattle.nz_solve.specs.Solutions.{AreToldOf, WasToldSome, IsCrowd, IsSolveRefusal}
+use Rattle.nz_solve.specs.Solutions.{AreToldOf, WasToldSome, IsCrowd, IsWithin, IsSolveRefusal}
 use Rattle.nz_solve.specs.Parts.{IsFrame, AreElements, AreBroughtBack, IsSameRefusal, entry_forms, vector_at}
 use Rattle.nz_solve.proofs.FrameLemmas.{frame_base, frame_wide, frame_coordinates, frame_positive, before_by_entries, entries_separate}
 
@@ -158,6 +159,14 @@ module _ (s : System) (base : Base) (pulled : List Vector) (is : IsSystem s) (fr
 -- all told is some told
 pub some_of_all : (s : System) (a c : Watched) → HasPassedAll (AreToldOf s) 0 a c → WasToldSome s a c
 some_of_all s a c h = inr (h.passed, h.telling)
+
+-- as many elements are brought back as there were
+pub within_limit : (s : System) (limit : ℕ) (base : Base) (list extreme list' extreme' : List Vector) (simplices : List (List ℕ)) → AreElements s list' extreme' simplices → AreBroughtBack base list extreme list' extreme' → length list ≤ limit → IsWithin s limit
+within_limit s limit base list extreme list' extreme' simplices are h l = record {
+  list = list';
+  basis = are.basis;
+  size = (let e = length_permutation (map (vector_at base) list) list' h.moved in let m = length-map list (vector_at base) in omega (arith, e, m, l));
+}
 
 -- ---- the same where the number of base vectors is that of the places of a simplex, and the order has another name
 module _ (s : System) (base : Base) (pulled : List Vector) (is : IsSystem s) (fr : IsFrame s base pulled) (places : List ℕ) (rays : List Vector) (sx : IsSimplexOf (length base.vectors) pulled places rays) (order : List Vector) (eo : order ≡ entry_forms base) where

@@ -1,5 +1,5 @@
 -- What a solved system answers.
-use Rattle.std.specs.Prelude.{◌≡◌, ◌⊎◌, ℕ, Bool, true, false, List, [], Option, Some, None}
+use Rattle.std.specs.Prelude.{◌≡◌, ◌⊎◌, ◌≤◌, ℕ, Bool, true, false, List, [], length, Option, Some, None}
 use Rattle.nz_spec.specs.Vectors.{Vector}
 use Rattle.nz_spec.specs.Order.{MoreThan}
 use Rattle.nz_spec.specs.Systems.{System, IsMember}
@@ -63,6 +63,12 @@ pub record IsCrowd (s : System) (limit : ℕ) : Type 0 where
   pub extreme : List Vector
   pub are_extreme : AreExtreme s extreme
   pub more : MoreThan limit (IsHeld s.width (IsMember s) extreme)
+
+-- the irreducible elements are no more than the limit
+pub record IsWithin (s : System) (limit : ℕ) : Type 0 where
+  pub list : List Vector
+  pub basis : IsHilbertBasis s list
+  pub size : length list ≤ limit
 
 -- why there is no outcome, and what the watch was told
 abbrev pub IsSolveRefusal : System → (limit : ℕ) → (before now : Watched) → SolveRefusal → Type 0

@@ -1,7 +1,7 @@
-ghost use Rattle.std.specs.Prelude.{◌≡◌, length, MatchResult};
+ghost use Rattle.std.specs.Prelude.{◌≡◌, length, IfOk, MatchResult};
 ghost use Rattle.nz_pointed.specs.Pointed.{IsSimplexOf};
 ghost use Rattle.nz_edge.specs.Telling.{HasPassedAll};
-ghost use Rattle.nz_solve.specs.Solutions.{IsPlain, IsSolution, AreToldOf, IsSolveRefusal};
+ghost use Rattle.nz_solve.specs.Solutions.{IsPlain, IsSolution, AreToldOf, IsSolveRefusal, IsWithin};
 ghost use Rattle.nz_solve.specs.Parts.{IsFrame};
 
 use crate::choosing::outcome;
@@ -22,7 +22,7 @@ use std::alloc::Global;
 /// them, each where its goal is on.
 ///
 /// The watch is told the stages of placing the extreme generators, and nothing where there is a line.
-/// `limit` is the most points of one simplex. Which numbers make it Range is not stated. Only Stopped
+/// `limit` is the most irreducible elements, and the most points of one simplex. Which numbers make it Range is not stated. Only Stopped
 /// comes after a stop of the watch.
 pub fn solve(
     alloc: Global,
@@ -31,7 +31,8 @@ pub fn solve(
     watch: &mut Box<dyn Watch>,
 ) -> Result<Outcome, SolveRefusal>
     requires { IsPlain system.now }
-    ensures { MatchResult result (λ o. IsSolution system.now o × HasPassedAll (AreToldOf system.now.system) 0 (record { told = told watch.old; patience = patience watch.old; stops = stops watch.old }) (record { told = told watch.new; patience = patience watch.new; stops = stops watch.new })) (λ e. IsSolveRefusal system.now.system limit (record { told = told watch.old; patience = patience watch.old; stops = stops watch.old }) (record { told = told watch.new; patience = patience watch.new; stops = stops watch.new }) e) }
+    ensures outcome { MatchResult result (λ o. IsSolution system.now o × HasPassedAll (AreToldOf system.now.system) 0 (record { told = told watch.old; patience = patience watch.old; stops = stops watch.old }) (record { told = told watch.new; patience = patience watch.new; stops = stops watch.new })) (λ e. IsSolveRefusal system.now.system limit (record { told = told watch.old; patience = patience watch.old; stops = stops watch.old }) (record { told = told watch.new; patience = patience watch.new; stops = stops watch.new }) e) }
+    ensures within { IfOk result (λ _. IsWithin system.now.system limit) }
 {
     system.kept();
     let frame = match frame_of(alloc, system) {
@@ -60,7 +61,8 @@ fn solved(
     requires plain { IsPlain system.now }
     requires frame { IsFrame system.now.system frame.now.base frame.now.rows }
     requires simplex { IsSimplexOf (length frame.now.base.vectors) frame.now.rows simplex.now.places simplex.now.rays }
-    ensures { MatchResult result (λ o. IsSolution system.now o × HasPassedAll (AreToldOf system.now.system) 0 (record { told = told watch.old; patience = patience watch.old; stops = stops watch.old }) (record { told = told watch.new; patience = patience watch.new; stops = stops watch.new })) (λ e. IsSolveRefusal system.now.system limit (record { told = told watch.old; patience = patience watch.old; stops = stops watch.old }) (record { told = told watch.new; patience = patience watch.new; stops = stops watch.new }) e) }
+    ensures outcome { MatchResult result (λ o. IsSolution system.now o × HasPassedAll (AreToldOf system.now.system) 0 (record { told = told watch.old; patience = patience watch.old; stops = stops watch.old }) (record { told = told watch.new; patience = patience watch.new; stops = stops watch.new })) (λ e. IsSolveRefusal system.now.system limit (record { told = told watch.old; patience = patience watch.old; stops = stops watch.old }) (record { told = told watch.new; patience = patience watch.new; stops = stops watch.new }) e) }
+    ensures within { IfOk result (λ _. IsWithin system.now.system limit) }
 {
     system.kept();
     let order = match entry_forms(alloc, &frame.base, system.width as usize) {

@@ -1,14 +1,14 @@
 use Rattle.std.proofs.Common.{◌∙◌, ap, sym, inl}
 use Rattle.nz_edge.proofs.TellingLemmas.{none_told}
 use Rattle.nz_system.specs.Meaning.{SystemData}
-use Rattle.nz_solve.proofs.AnswerLemmas.{rows_at, simplex_at, order_at, list_wide_at, extreme_wide_at, elements_at, told_at, some_told_at, refused_at}
+use Rattle.nz_solve.proofs.AnswerLemmas.{rows_at, simplex_at, order_at, list_wide_at, extreme_wide_at, elements_at, within_limit, told_at, some_told_at, refused_at}
 use Rattle.nz_solve.proofs.solving.solved.Goals as goal
 
 pub entry_forms-requires : goal.entry_forms-requires
 entry_forms-requires g c = c.requires.frame.is_base.width ∙ sym (ap (λ (d : SystemData). d.system.width) c.system.view_is)
 
-pub returns-in-Err : goal.returns-in-Err
-returns-in-Err g c = c.unreckoned.ensures c.args.system.now.system c.args.limit _ _ (inl (none_told _))
+pub returns-in-Err-clause-outcome : goal.returns-in-Err-clause-outcome
+returns-in-Err-clause-outcome g c = c.unreckoned.ensures c.args.system.now.system c.args.limit _ _ (inl (none_told _))
 
 pub primal-requires-clause-widths : goal.primal-requires-clause-widths
 primal-requires-clause-widths g c = rows_at c.args.system.now.system c.args.frame.now.base c.args.frame.now.rows c.kept.ensures.system c.requires.frame c.args.simplex.now.places c.args.simplex.now.rays c.requires.simplex c.in-Ok.order c.in-Ok.ensures
@@ -19,23 +19,28 @@ primal-requires-clause-simplex g c = simplex_at c.args.system.now.system c.args.
 pub primal-requires-clause-order : goal.primal-requires-clause-order
 primal-requires-clause-order g c = order_at c.args.system.now.system c.args.frame.now.base c.args.frame.now.rows c.kept.ensures.system c.requires.frame c.args.simplex.now.places c.args.simplex.now.rays c.requires.simplex c.in-Ok.order c.in-Ok.ensures
 
-pub returns-in-Err-primal : goal.returns-in-Err-primal
-returns-in-Err-primal g c = refused_at c.args.system.now.system c.args.frame.now.base c.args.frame.now.rows c.kept.ensures.system c.requires.frame c.args.simplex.now.places c.args.simplex.now.rays c.requires.simplex c.in-Ok.order c.in-Ok.ensures c.requires.plain.no_level c.requires.plain.no_grading c.args.limit _ _ c.in-Err-primal.refusal c.unfinished.result c.in-Err-primal.ensures c.unfinished.ensures
+pub returns-in-Err-primal-clause-outcome : goal.returns-in-Err-primal-clause-outcome
+returns-in-Err-primal-clause-outcome g c = refused_at c.args.system.now.system c.args.frame.now.base c.args.frame.now.rows c.kept.ensures.system c.requires.frame c.args.simplex.now.places c.args.simplex.now.rays c.requires.simplex c.in-Ok.order c.in-Ok.ensures c.requires.plain.no_level c.requires.plain.no_grading c.args.limit _ _ c.in-Err-primal.refusal c.unfinished.result c.in-Err-primal.ensures.lists c.unfinished.ensures
 
 pub elements_of-requires-clause-list : goal.elements_of-requires-clause-list
-elements_of-requires-clause-list g c = list_wide_at c.args.system.now.system c.args.frame.now.base c.args.frame.now.rows c.kept.ensures.system c.requires.frame c.args.simplex.now.places c.args.simplex.now.rays c.requires.simplex c.in-Ok.order c.in-Ok.ensures c.in-Ok-primal.lists.list c.in-Ok-primal.lists.extreme c.in-Ok-primal.lists.cover.simplices c.in-Ok-primal.lists.cover.forms c.in-Ok-primal.ensures.0
+elements_of-requires-clause-list g c = list_wide_at c.args.system.now.system c.args.frame.now.base c.args.frame.now.rows c.kept.ensures.system c.requires.frame c.args.simplex.now.places c.args.simplex.now.rays c.requires.simplex c.in-Ok.order c.in-Ok.ensures c.in-Ok-primal.lists.list c.in-Ok-primal.lists.extreme c.in-Ok-primal.lists.cover.simplices c.in-Ok-primal.lists.cover.forms c.in-Ok-primal.ensures.lists.0
 
 pub elements_of-requires-clause-extreme : goal.elements_of-requires-clause-extreme
-elements_of-requires-clause-extreme g c = extreme_wide_at c.args.system.now.system c.args.frame.now.base c.args.frame.now.rows c.kept.ensures.system c.requires.frame c.args.simplex.now.places c.args.simplex.now.rays c.requires.simplex c.in-Ok.order c.in-Ok.ensures c.in-Ok-primal.lists.list c.in-Ok-primal.lists.extreme c.in-Ok-primal.lists.cover.simplices c.in-Ok-primal.lists.cover.forms c.in-Ok-primal.ensures.0
+elements_of-requires-clause-extreme g c = extreme_wide_at c.args.system.now.system c.args.frame.now.base c.args.frame.now.rows c.kept.ensures.system c.requires.frame c.args.simplex.now.places c.args.simplex.now.rays c.requires.simplex c.in-Ok.order c.in-Ok.ensures c.in-Ok-primal.lists.list c.in-Ok-primal.lists.extreme c.in-Ok-primal.lists.cover.simplices c.in-Ok-primal.lists.cover.forms c.in-Ok-primal.ensures.lists.0
 
-pub returns-in-Err-elements_of : goal.returns-in-Err-elements_of
-returns-in-Err-elements_of g c = c.unreckoned-in-Err-elements_of.ensures c.args.system.now.system c.args.limit _ _ (some_told_at c.args.system.now.system c.args.frame.now.base c.args.frame.now.rows c.kept.ensures.system c.requires.frame c.args.simplex.now.places c.args.simplex.now.rays c.requires.simplex c.in-Ok.order c.in-Ok.ensures c.requires.plain.no_level c.requires.plain.no_grading c.in-Ok-primal.lists.list c.in-Ok-primal.lists.extreme c.in-Ok-primal.lists.cover.simplices c.in-Ok-primal.lists.cover.forms _ _ c.in-Ok-primal.ensures)
+pub returns-in-Err-elements_of-clause-outcome : goal.returns-in-Err-elements_of-clause-outcome
+returns-in-Err-elements_of-clause-outcome g c = c.unreckoned-in-Err-elements_of.ensures c.args.system.now.system c.args.limit _ _ (some_told_at c.args.system.now.system c.args.frame.now.base c.args.frame.now.rows c.kept.ensures.system c.requires.frame c.args.simplex.now.places c.args.simplex.now.rays c.requires.simplex c.in-Ok.order c.in-Ok.ensures c.requires.plain.no_level c.requires.plain.no_grading c.in-Ok-primal.lists.list c.in-Ok-primal.lists.extreme c.in-Ok-primal.lists.cover.simplices c.in-Ok-primal.lists.cover.forms _ _ c.in-Ok-primal.ensures.lists)
 
 pub outcome-requires-clause-elements : goal.outcome-requires-clause-elements
-outcome-requires-clause-elements g c = elements_at c.args.system.now.system c.args.frame.now.base c.args.frame.now.rows c.kept.ensures.system c.requires.frame c.args.simplex.now.places c.args.simplex.now.rays c.requires.simplex c.in-Ok.order c.in-Ok.ensures c.requires.plain.no_level c.requires.plain.no_grading c.in-Ok-primal.lists.list c.in-Ok-primal.lists.extreme c.in-Ok-elements_of.elements.list c.in-Ok-elements_of.elements.extreme c.in-Ok-primal.lists.cover.simplices c.in-Ok-elements_of.elements.simplices c.in-Ok-primal.lists.cover.forms c.in-Ok-primal.ensures.0 c.in-Ok-elements_of.ensures.back c.in-Ok-elements_of.ensures.simplices
+outcome-requires-clause-elements g c = elements_at c.args.system.now.system c.args.frame.now.base c.args.frame.now.rows c.kept.ensures.system c.requires.frame c.args.simplex.now.places c.args.simplex.now.rays c.requires.simplex c.in-Ok.order c.in-Ok.ensures c.requires.plain.no_level c.requires.plain.no_grading c.in-Ok-primal.lists.list c.in-Ok-primal.lists.extreme c.in-Ok-elements_of.elements.list c.in-Ok-elements_of.elements.extreme c.in-Ok-primal.lists.cover.simplices c.in-Ok-elements_of.elements.simplices c.in-Ok-primal.lists.cover.forms c.in-Ok-primal.ensures.lists.0 c.in-Ok-elements_of.ensures.back c.in-Ok-elements_of.ensures.simplices
 
-pub returns-in-Ok-outcome : goal.returns-in-Ok-outcome
-returns-in-Ok-outcome g c = (c.in-Ok-outcome.ensures, told_at c.args.system.now.system c.args.frame.now.base c.args.frame.now.rows c.kept.ensures.system c.requires.frame c.args.simplex.now.places c.args.simplex.now.rays c.requires.simplex c.in-Ok.order c.in-Ok.ensures c.requires.plain.no_level c.requires.plain.no_grading c.in-Ok-primal.lists.list c.in-Ok-primal.lists.extreme c.in-Ok-primal.lists.cover.simplices c.in-Ok-primal.lists.cover.forms _ _ c.in-Ok-primal.ensures)
+pub returns-in-Ok-outcome-clause-outcome : goal.returns-in-Ok-outcome-clause-outcome
+returns-in-Ok-outcome-clause-outcome g c = (c.in-Ok-outcome.ensures, told_at c.args.system.now.system c.args.frame.now.base c.args.frame.now.rows c.kept.ensures.system c.requires.frame c.args.simplex.now.places c.args.simplex.now.rays c.requires.simplex c.in-Ok.order c.in-Ok.ensures c.requires.plain.no_level c.requires.plain.no_grading c.in-Ok-primal.lists.list c.in-Ok-primal.lists.extreme c.in-Ok-primal.lists.cover.simplices c.in-Ok-primal.lists.cover.forms _ _ c.in-Ok-primal.ensures.lists)
 
-pub returns : goal.returns
-returns g c = c.unreckoned-in-Err-outcome.ensures c.args.system.now.system c.args.limit _ _ (some_told_at c.args.system.now.system c.args.frame.now.base c.args.frame.now.rows c.kept.ensures.system c.requires.frame c.args.simplex.now.places c.args.simplex.now.rays c.requires.simplex c.in-Ok.order c.in-Ok.ensures c.requires.plain.no_level c.requires.plain.no_grading c.in-Ok-primal.lists.list c.in-Ok-primal.lists.extreme c.in-Ok-primal.lists.cover.simplices c.in-Ok-primal.lists.cover.forms _ _ c.in-Ok-primal.ensures)
+pub returns-in-Ok-outcome-clause-within : goal.returns-in-Ok-outcome-clause-within
+returns-in-Ok-outcome-clause-within g c = within_limit c.args.system.now.system c.args.limit c.args.frame.now.base c.in-Ok-primal.lists.list c.in-Ok-primal.lists.extreme c.in-Ok-elements_of.elements.list c.in-Ok-elements_of.elements.extreme c.in-Ok-elements_of.elements.simplices
+    (elements_at c.args.system.now.system c.args.frame.now.base c.args.frame.now.rows c.kept.ensures.system c.requires.frame c.args.simplex.now.places c.args.simplex.now.rays c.requires.simplex c.in-Ok.order c.in-Ok.ensures c.requires.plain.no_level c.requires.plain.no_grading c.in-Ok-primal.lists.list c.in-Ok-primal.lists.extreme c.in-Ok-elements_of.elements.list c.in-Ok-elements_of.elements.extreme c.in-Ok-primal.lists.cover.simplices c.in-Ok-elements_of.elements.simplices c.in-Ok-primal.lists.cover.forms c.in-Ok-primal.ensures.lists.0 c.in-Ok-elements_of.ensures.back c.in-Ok-elements_of.ensures.simplices)
+    c.in-Ok-elements_of.ensures.back c.in-Ok-primal.ensures.within
+
+pub returns-clause-outcome : goal.returns-clause-outcome
+returns-clause-outcome g c = c.unreckoned-in-Err-outcome.ensures c.args.system.now.system c.args.limit _ _ (some_told_at c.args.system.now.system c.args.frame.now.base c.args.frame.now.rows c.kept.ensures.system c.requires.frame c.args.simplex.now.places c.args.simplex.now.rays c.requires.simplex c.in-Ok.order c.in-Ok.ensures c.requires.plain.no_level c.requires.plain.no_grading c.in-Ok-primal.lists.list c.in-Ok-primal.lists.extreme c.in-Ok-primal.lists.cover.simplices c.in-Ok-primal.lists.cover.forms _ _ c.in-Ok-primal.ensures.lists)
