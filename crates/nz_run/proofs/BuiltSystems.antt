@@ -1,149 +1,170 @@
--- The system of a file of congruences.
-use Rattle.std.proofs.Common.{◌≡◌, ℕ, zero, suc, ◌-◌, ◌<◌, ◌≤◌, List, [], ◌∷◌, ◌++◌, length, refl, sym, ap, ◌∙◌, arith, Bool, false, Option, None}
-use Rattle.std.specs.Prelude.{pos, map, not, ◌||◌, replicate}
-use Rattle.std.proofs.lemmas.List.{append-nil, map-append}
+-- The system of a file of which everything is built is plain: no level, no grading, no asked vectors, and the primal algorithm.
+use Rattle.std.proofs.Common.{◌≡◌, List, [], ◌∷◌, ◌++◌, length, refl, ap, ◌∙◌, ℕ, Bool, true, false, Option, Some, None}
+use Rattle.std.specs.Prelude.{IsTrue, IfSome, not, ◌&&◌, ◌||◌, map, pos, replicate}
 use Rattle.std.specs.List.{AllByRecursion as Each, flat_map}
-use Rattle.nz_spec.specs.Vectors.{Vector, entry, zero_vector, unit_vectors}
-use Rattle.nz_spec.specs.Systems.{Congruence, System}
+use Rattle.std.proofs.lemmas.Bool.{false≢true}
+use Rattle.nz_spec.specs.Vectors.{Vector}
 use Rattle.nz_input.specs.Files.{ItemData, FileData}
 use Rattle.nz_input.specs.declared.kind.Kind.{Kind}
-use Rattle.nz_input.specs.declared.kind.Kind.TheVariants.{Congruences, Signs}
+use Rattle.nz_input.specs.declared.kind.Kind.TheVariants.{Cone, ConeAndLattice, Inequalities, Equations, Congruences, Signs, StrictSigns, StrictInequalities, InhomInequalities, InhomEquations, InhomCongruences, Vertices, Grading, Ask}
+use Rattle.nz_input.specs.declared.kind.Goal.{Goal}
+use Rattle.nz_input.specs.declared.kind.Goal.TheVariants.{HilbertBasis, ExtremeRays, SupportHyperplanes, Deg1Elements, ModuleGenerators, Triangulation, DualMode, PrimalMode}
+use Rattle.nz_input.specs.declared.kind.Mode.{Mode}
+use Rattle.nz_input.specs.declared.kind.Mode.TheVariants.{Primal}
 use Rattle.nz_system.specs.declared.contribution.Contribution.{Contribution}
-use Rattle.nz_system.specs.declared.contribution.Contribution.TheVariants.{Multiple, NotNegative}
+use Rattle.nz_system.specs.declared.contribution.Contribution.TheVariants.{NotNegative}
 use Rattle.nz_system.specs.declared.groups.Group.{Group}
 use Rattle.nz_system.specs.declared.groups.Group.TheVariants as group
 use Rattle.nz_system.specs.Groups.{includes, occurs}
-use Rattle.nz_system.specs.Contributions.{front, last, coordinate_form, sign_form, sign_forms, contributions, given}
-use Rattle.nz_system.specs.Meaning.{zero_of, multiple_of, not_negative_of, generator_of, lattice_of, degree_of, asked_of, there, orthant, orthant_where, all_given, system_given, system_of}
+use Rattle.nz_system.specs.Contributions.{at_level, sign_forms, contributions, given}
+use Rattle.nz_system.specs.Asked.{goals_of, mode_of, or_else, last_mode, mode_for}
+use Rattle.nz_system.specs.Meaning.{degree_of, asked_of, there, orthant_where, level_where, all_given, meaning}
 use Rattle.nz_system.specs.Rules.{first}
-use Rattle.nz_box.specs.Congruences.{congruence_of, congruence_system}
-use Rattle.nz_run.specs.Built.{IsBuiltItem}
-use Rattle.nz_run.specs.FileSystems.{rows_of}
+use Rattle.nz_solve.specs.Solutions.{IsPlain}
+use Rattle.nz_run.specs.Built.{is_built_kind, IsBuiltItem, IsBuiltGoal}
+use Rattle.nz_run.specs.Runs.{IsReady}
+use Rattle.nz_run.proofs.Firsts.{each_both}
 
--- ---- the orthant
+each_first : {A : Type 0} (P : A → Type 0) (xs ys : List A) → Each P (xs ++ ys) → Each P xs
+each_first P [] ys h = tt
+each_first P (x ∷ xs) ys h = (h.0, each_first P xs ys h.1)
 
-ones-length : (d : ℕ) → length (replicate d (pos 1)) ≡ d
-ones-length zero = refl
-ones-length (suc d) = (let r = ones-length d in omega (arith, r))
+each_second : {A : Type 0} (P : A → Type 0) (xs ys : List A) → Each P (xs ++ ys) → Each P ys
+each_second P [] ys h = h
+each_second P (x ∷ xs) ys h = each_second P xs ys h.1
 
-ones-entry : (d i : ℕ) → i < d → entry (replicate d (pos 1)) i ≡ pos 1
-ones-entry zero i l = absurd (omega arith)
-ones-entry (suc d) zero l = refl
-ones-entry (suc d) (suc i) l = ones-entry d i (omega (arith, l))
+-- ---- no item is of these groups
 
--- the forms of the first coordinates
-abbrev pub coordinates : ℕ → ℕ → List Vector
-coordinates d zero = []
-coordinates d (suc i) = coordinates d i ++ coordinate_form d i (pos 1) ∷ []
+no_level : (k : Kind) → IsTrue (is_built_kind k) → includes group.Leveled k ≡ false
+no_level Cone b = refl
+no_level ConeAndLattice b = refl
+no_level Inequalities b = refl
+no_level Equations b = refl
+no_level Congruences b = refl
+no_level Signs b = refl
+no_level StrictSigns b = absurd (false≢true b)
+no_level StrictInequalities b = absurd (false≢true b)
+no_level InhomInequalities b = absurd (false≢true b)
+no_level InhomEquations b = absurd (false≢true b)
+no_level InhomCongruences b = absurd (false≢true b)
+no_level Vertices b = absurd (false≢true b)
+no_level Grading b = absurd (false≢true b)
+no_level Ask b = absurd (false≢true b)
 
-ones-forms : (d n : ℕ) → n ≤ d → sign_forms (replicate d (pos 1)) [] n ≡ coordinates d n
-ones-forms d zero l = refl
-ones-forms d (suc n) l =
-    ap (λ (fs : List Vector). fs ++ sign_form (length (replicate d (pos 1))) [] n (entry (replicate d (pos 1)) n)) (ones-forms d n (omega (arith, l)))
-    ∙ ap (λ k. coordinates d n ++ sign_form k [] n (entry (replicate d (pos 1)) n)) (ones-length d)
-    ∙ ap (λ z. coordinates d n ++ sign_form d [] n z) (ones-entry d n (omega (arith, l)))
-    ∙ ap (λ (f : Vector). coordinates d n ++ f ∷ []) (append-nil (coordinate_form d n (pos 1)))
+no_asked : (k : Kind) → IsTrue (is_built_kind k) → includes group.Ask k ≡ false
+no_asked Cone b = refl
+no_asked ConeAndLattice b = refl
+no_asked Inequalities b = refl
+no_asked Equations b = refl
+no_asked Congruences b = refl
+no_asked Signs b = refl
+no_asked StrictSigns b = refl
+no_asked StrictInequalities b = refl
+no_asked InhomInequalities b = refl
+no_asked InhomEquations b = refl
+no_asked InhomCongruences b = refl
+no_asked Vertices b = refl
+no_asked Grading b = refl
+no_asked Ask b = absurd (false≢true b)
 
-coordinates-more : (d n : ℕ) → n ≤ d → coordinates (suc d) (suc n) ≡ (pos 1 ∷ zero_vector d) ∷ map (λ u. pos 0 ∷ u) (coordinates d n)
-coordinates-more d zero l = (let e : suc d - 1 ≡ d = omega arith in ap (λ k. (pos 1 ∷ zero_vector k) ∷ []) e)
-coordinates-more d (suc n) l =
-    let e : suc d - suc (suc n) ≡ d - suc n = omega arith in
-    ap (λ (fs : List Vector). fs ++ coordinate_form (suc d) (suc n) (pos 1) ∷ []) (coordinates-more d n (omega (arith, l)))
-    ∙ ap (λ k. ((pos 1 ∷ zero_vector d) ∷ map (λ u. pos 0 ∷ u) (coordinates d n)) ++ (pos 0 ∷ (zero_vector n ++ pos 1 ∷ zero_vector k)) ∷ []) e
-    ∙ ap (λ (fs : List Vector). (pos 1 ∷ zero_vector d) ∷ fs) (sym (map-append (λ (u : Vector). pos 0 ∷ u) (coordinates d n) (coordinate_form d n (pos 1) ∷ [])))
-
-coordinates-all : (d : ℕ) → coordinates d d ≡ unit_vectors d
-coordinates-all zero = refl
-coordinates-all (suc d) = coordinates-more d d (omega arith) ∙ ap (λ (us : List Vector). (pos 1 ∷ zero_vector d) ∷ map (λ u. pos 0 ∷ u) us) (coordinates-all d)
-
--- the orthant is that of the unit forms
-orthant-units : (d : ℕ) → contributions false Signs (replicate d (pos 1)) ≡ map NotNegative (unit_vectors d)
-orthant-units d =
-    ap (λ k. map NotNegative (sign_forms (replicate d (pos 1)) [] k)) (ones-length d)
-    ∙ ap (λ (fs : List Vector). map NotNegative fs) (ones-forms d d (omega arith) ∙ coordinates-all d)
-
--- ---- the rows
-
--- what a row of congruences gives
-abbrev pub condition : Vector → Contribution
-condition r = Multiple (front r) (last r)
-
-row-gives : (r : Vector) → contributions false Congruences r ≡ condition r ∷ []
-row-gives r = ap (λ (f : Vector). Multiple f (last r) ∷ []) (append-nil (front r))
-
-rows-give : (rows : List Vector) → flat_map (contributions false Congruences) rows ≡ map condition rows
-rows-give [] = refl
-rows-give (r ∷ rows) = ap (λ (cs : List Contribution). cs ++ flat_map (contributions false Congruences) rows) (row-gives r) ∙ ap (λ (cs : List Contribution). condition r ∷ cs) (rows-give rows)
-
-item-gives : (item : ItemData) → IsBuiltItem item → flat_map (contributions false item.kind) item.rows ≡ map condition item.rows
-item-gives item b = ap (λ (k : Kind). flat_map (contributions false k) item.rows) b ∙ rows-give item.rows
-
-items-give : (items : List ItemData) → Each IsBuiltItem items → given false items ≡ map condition (rows_of items)
-items-give [] b = refl
-items-give (item ∷ items) b =
-    ap (λ (cs : List Contribution). cs ++ given false items) (item-gives item b.0)
-    ∙ ap (λ (cs : List Contribution). map condition item.rows ++ cs) (items-give items b.1)
-    ∙ sym (map-append condition item.rows (rows_of items))
-
--- a group without congruences has no item
-absent : (g : Group) → includes g Congruences ≡ false → (items : List ItemData) → Each IsBuiltItem items → occurs g items ≡ false
+absent : (g : Group) → ((k : Kind) → IsTrue (is_built_kind k) → includes g k ≡ false) → (items : List ItemData) → Each IsBuiltItem items → occurs g items ≡ false
 absent g e [] b = refl
-absent g e (item ∷ items) b = ap (λ (k : Kind). includes g k || occurs g items) b.0 ∙ ap (λ x. x || occurs g items) e ∙ absent g e items b.1
+absent g e (item ∷ items) b = ap (λ x. x || occurs g items) (e item.kind b.0) ∙ absent g e items b.1
 
--- ---- the system
+-- ---- no row is a grading
 
--- the congruences of rows, and forms that are to be at least 0
-abbrev pub all_of : List Vector → List Vector → List Contribution
-all_of rows forms = map condition rows ++ map NotNegative forms
+abbrev pub HasNoDegree : Contribution → Type 0
+HasNoDegree c = degree_of c ≡ []
 
-none-of : {A : Type 0} (pick : Contribution → List A) → ((r : Vector) → pick (condition r) ≡ []) → ((f : Vector) → pick (NotNegative f) ≡ []) → (rows forms : List Vector) → flat_map pick (all_of rows forms) ≡ []
-none-of pick p q [] [] = refl
-none-of pick p q [] (f ∷ forms) = ap (λ (xs : List _). xs ++ flat_map pick (all_of [] forms)) (q f) ∙ none-of pick p q [] forms
-none-of pick p q (r ∷ rows) forms = ap (λ (xs : List _). xs ++ flat_map pick (all_of rows forms)) (p r) ∙ none-of pick p q rows forms
+forms_none : (forms : List Vector) → Each HasNoDegree (map NotNegative forms)
+forms_none [] = tt
+forms_none (f ∷ forms) = (refl, forms_none forms)
 
-forms-of : (rows forms : List Vector) → flat_map not_negative_of (all_of rows forms) ≡ forms
-forms-of [] [] = refl
-forms-of [] (f ∷ forms) = ap (λ (fs : List Vector). f ∷ fs) (forms-of [] forms)
-forms-of (r ∷ rows) forms = forms-of rows forms
+row_none : (level : Bool) (k : Kind) (row : Vector) → IsTrue (is_built_kind k) → Each HasNoDegree (contributions level k row)
+row_none level Cone row b = (refl, tt)
+row_none level ConeAndLattice row b = (refl, (refl, tt))
+row_none level Inequalities row b = (refl, tt)
+row_none level Equations row b = (refl, tt)
+row_none level Congruences row b = (refl, tt)
+row_none level Signs row b = forms_none (sign_forms row (at_level level (pos 0)) (length row))
+row_none level StrictSigns row b = absurd (false≢true b)
+row_none level StrictInequalities row b = absurd (false≢true b)
+row_none level InhomInequalities row b = absurd (false≢true b)
+row_none level InhomEquations row b = absurd (false≢true b)
+row_none level InhomCongruences row b = absurd (false≢true b)
+row_none level Vertices row b = absurd (false≢true b)
+row_none level Grading row b = absurd (false≢true b)
+row_none level Ask row b = absurd (false≢true b)
 
-moduli-of : (rows forms : List Vector) → flat_map multiple_of (all_of rows forms) ≡ map congruence_of rows
-moduli-of [] [] = refl
-moduli-of [] (f ∷ forms) = moduli-of [] forms
-moduli-of (r ∷ rows) forms = ap (λ (cs : List Congruence). congruence_of r ∷ cs) (moduli-of rows forms)
+rows_none : (level : Bool) (k : Kind) (rows : List Vector) → IsTrue (is_built_kind k) → Each HasNoDegree (flat_map (contributions level k) rows)
+rows_none level k [] b = tt
+rows_none level k (row ∷ rows) b = each_both HasNoDegree (contributions level k row) (flat_map (contributions level k) rows) (row_none level k row b) (rows_none level k rows b)
 
-all-is : (file : FileData) → Each IsBuiltItem file.items → all_given false file ≡ all_of (rows_of file.items) (unit_vectors file.amb)
-all-is file b =
-    ap (λ (cs : List Contribution). cs ++ (orthant false file ++ [])) (items-give file.items b)
-    ∙ ap (λ (cs : List Contribution). map condition (rows_of file.items) ++ cs) (append-nil (orthant false file))
-    ∙ ap (λ x. map condition (rows_of file.items) ++ orthant_where (not x) false file.amb) (absent group.Bounding refl file.items b)
-    ∙ ap (λ (cs : List Contribution). map condition (rows_of file.items) ++ cs) (orthant-units file.amb)
+items_none : (level : Bool) (items : List ItemData) → Each IsBuiltItem items → Each HasNoDegree (given level items)
+items_none level [] b = tt
+items_none level (item ∷ items) b = each_both HasNoDegree (flat_map (contributions level item.kind) item.rows) (given level items) (rows_none level item.kind item.rows b.0) (items_none level items b.1)
 
-abbrev pub made : ℕ → List Vector → List Congruence → List Vector → Option (List Vector) → Option (List Vector) → Option Vector → Option (List Vector) → System
-made w e c g n t d a = record { width = w; level = false; eq = e; cg = c; ge = g; gens = n; lat = t; grading = d; asked = a }
+orthant_none : (wanted level : Bool) (d : ℕ) → Each HasNoDegree (orthant_where wanted level d)
+orthant_none true level d = row_none level Signs (replicate d (pos 1)) refl
+orthant_none false level d = tt
 
-made-same : (w : ℕ) (e e2 : List Vector) (c c2 : List Congruence) (g g2 : List Vector) (n n2 t t2 : Option (List Vector)) (d d2 : Option Vector) (a a2 : Option (List Vector)) → e ≡ e2 → c ≡ c2 → g ≡ g2 → n ≡ n2 → t ≡ t2 → d ≡ d2 → a ≡ a2 → made w e c g n t d a ≡ made w e2 c2 g2 n2 t2 d2 a2
-made-same w e e2 c c2 g g2 n n2 t t2 d d2 a a2 pe pc pg pn pt pd pa =
-    ap (λ (x : List Vector). made w x c g n t d a) pe
-    ∙ ap (λ (x : List Congruence). made w e2 x g n t d a) pc
-    ∙ ap (λ (x : List Vector). made w e2 c2 x n t d a) pg
-    ∙ ap (λ (x : Option (List Vector)). made w e2 c2 g2 x t d a) pn
-    ∙ ap (λ (x : Option (List Vector)). made w e2 c2 g2 n2 x d a) pt
-    ∙ ap (λ (x : Option Vector). made w e2 c2 g2 n2 t2 x a) pd
-    ∙ ap (λ (x : Option (List Vector)). made w e2 c2 g2 n2 t2 d2 x) pa
+level_none : (level with_vertex : Bool) (d : ℕ) → Each HasNoDegree (level_where level with_vertex d)
+level_none false v d = tt
+level_none true false d = (refl, tt)
+level_none true true d = (refl, (refl, tt))
 
--- the system of a file of congruences is theirs over the orthant
-pub system_is : (file : FileData) → Each IsBuiltItem file.items → system_of file ≡ congruence_system file.amb (rows_of file.items)
-system_is file b =
-    let rows = rows_of file.items in
-    let forms = unit_vectors file.amb in
-    let cs = all_of rows forms in
-    ap (λ (l : Bool). system_given l file (all_given l file)) (absent group.Leveled refl file.items b)
-    ∙ ap (λ (all : List Contribution). system_given false file all) (all-is file b)
-    ∙ made-same file.amb (flat_map zero_of cs) [] (flat_map multiple_of cs) (map congruence_of rows) (flat_map not_negative_of cs) forms (there (occurs group.Generating file.items) (flat_map generator_of cs)) None (there (occurs group.ConeAndLattice file.items) (flat_map lattice_of cs)) None (first (flat_map degree_of cs)) None (there (occurs group.Ask file.items) (flat_map asked_of cs)) None
-    (none-of zero_of (λ r. refl) (λ f. refl) rows forms)
-    (moduli-of rows forms)
-    (forms-of rows forms)
-    (ap (λ x. there x (flat_map generator_of cs)) (absent group.Generating refl file.items b))
-    (ap (λ x. there x (flat_map lattice_of cs)) (absent group.ConeAndLattice refl file.items b))
-    (ap (λ (ds : List Vector). first ds) (none-of degree_of (λ r. refl) (λ f. refl) rows forms))
-    (ap (λ x. there x (flat_map asked_of cs)) (absent group.Ask refl file.items b))
+no_degrees : (cs : List Contribution) → Each HasNoDegree cs → flat_map degree_of cs ≡ []
+no_degrees [] h = refl
+no_degrees (c ∷ cs) h = ap (λ (xs : List Vector). xs ++ flat_map degree_of cs) h.0 ∙ no_degrees cs h.1
+
+no_grading : (level : Bool) (file : FileData) → Each IsBuiltItem file.items → flat_map degree_of (all_given level file) ≡ []
+no_grading level file b =
+    let orthant = orthant_where (not (occurs group.Bounding file.items)) level file.amb in
+    let behind = level_where level (occurs group.Cone file.items && not (occurs group.Vertices file.items)) file.amb in
+    no_degrees (all_given level file)
+    (each_both HasNoDegree (given level file.items) (orthant ++ behind) (items_none level file.items b)
+    (each_both HasNoDegree orthant behind (orthant_none _ level file.amb) (level_none level _ file.amb)))
+
+-- ---- the mode
+
+abbrev pub IsPrimalIfAny : Option Mode → Type 0
+IsPrimalIfAny o = IfSome o (λ m. m ≡ Primal)
+
+goal_primal : (g : Goal) → IsBuiltGoal g → IsPrimalIfAny (mode_of g)
+goal_primal HilbertBasis b = tt
+goal_primal ExtremeRays b = tt
+goal_primal SupportHyperplanes b = tt
+goal_primal Deg1Elements b = tt
+goal_primal ModuleGenerators b = tt
+goal_primal Triangulation b = tt
+goal_primal DualMode b = absurd (false≢true b)
+goal_primal PrimalMode b = refl
+
+or_primal : (a b : Option Mode) → IsPrimalIfAny a → IsPrimalIfAny b → IsPrimalIfAny (or_else a b)
+or_primal None b h k = k
+or_primal (Some m) b h k = h
+
+last_primal : (goals : List Goal) → Each IsBuiltGoal goals → IsPrimalIfAny (last_mode goals)
+last_primal [] h = tt
+last_primal (g ∷ goals) h = or_primal (last_mode goals) (mode_of g) (last_primal goals h.1) (goal_primal g h.0)
+
+mode_primal : (cover : Bool) (a b : Option Mode) → IsPrimalIfAny a → IsPrimalIfAny b → mode_for cover a b ≡ Primal
+mode_primal true a b h k = refl
+mode_primal false (Some m) b h k = h
+mode_primal false None (Some m) h k = k
+mode_primal false None None h k = refl
+
+-- ---- all together
+
+pub ready_plain : (goals : List Goal) (file : FileData) → IsReady goals file → IsPlain (meaning file goals)
+ready_plain goals file r =
+    let items = r.built.items in
+    let level = occurs group.Leveled file.items in
+    record {
+      no_level = absent group.Leveled no_level file.items items;
+      no_grading = ap (λ (ds : List Vector). first ds) (no_grading level file items);
+      no_asked = ap (λ x. there x (flat_map asked_of (all_given level file))) (absent group.Ask no_asked file.items items);
+      primal = mode_primal (goals_of file goals).cover (last_mode goals) (last_mode file.goals)
+          (last_primal goals (each_second IsBuiltGoal file.goals goals r.built.goals))
+          (last_primal file.goals (each_first IsBuiltGoal file.goals goals r.built.goals));
+    }

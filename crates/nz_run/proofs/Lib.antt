@@ -2,4 +2,4 @@ pub mod Composing
 pub mod Pieces
 pub mod Firsts
 pub mod BuiltSystems
-pub mod BuiltRows
+pub mod Answering

@@ -1,20 +1,40 @@
 -- What the program solves today, and the word that names what it does not.
-use Rattle.std.specs.Prelude.{◌≡◌, List, ◌∷◌, ◌++◌}
+use Rattle.std.specs.Prelude.{◌≡◌, Bool, true, false, IsTrue, List, ◌∷◌, ◌++◌}
 use Rattle.std.specs.List.{AllByRecursion as Each}
 use Rattle.nz_input.specs.Files.{ItemData, FileData}
-use Rattle.nz_input.specs.declared.kind.Kind.TheVariants.{Congruences}
+use Rattle.nz_input.specs.declared.kind.Kind.{Kind}
+use Rattle.nz_input.specs.declared.kind.Kind.TheVariants.{Cone, ConeAndLattice, Inequalities, Equations, Congruences, Signs}
 use Rattle.nz_input.specs.declared.kind.Goal.{Goal}
-use Rattle.nz_input.specs.declared.kind.Goal.TheVariants.{HilbertBasis}
+use Rattle.nz_input.specs.declared.kind.Goal.TheVariants.{HilbertBasis, ExtremeRays, SupportHyperplanes, Triangulation, PrimalMode}
 use Rattle.nz_run.specs.declared.built.Keyword.{Keyword}
 use Rattle.nz_run.specs.declared.built.Keyword.TheVariants as keyword
 
--- congruences
-abbrev pub IsBuiltItem : ItemData → Type 0
-IsBuiltItem item = item.kind ≡ Congruences
+-- the kinds of a homogeneous file without a grading and without asked vectors
+abbrev pub is_built_kind : Kind → Bool
+is_built_kind Cone = true
+is_built_kind ConeAndLattice = true
+is_built_kind Inequalities = true
+is_built_kind Equations = true
+is_built_kind Congruences = true
+is_built_kind Signs = true
+is_built_kind _ = false
 
--- the Hilbert basis is asked
+-- what is asked of such a file by the primal algorithm
+abbrev pub is_built_goal : Goal → Bool
+is_built_goal HilbertBasis = true
+is_built_goal ExtremeRays = true
+is_built_goal SupportHyperplanes = true
+is_built_goal Triangulation = true
+is_built_goal PrimalMode = true
+is_built_goal _ = false
+
+-- an item of a built kind
+abbrev pub IsBuiltItem : ItemData → Type 0
+IsBuiltItem item = IsTrue (is_built_kind item.kind)
+
+-- a built goal
 abbrev pub IsBuiltGoal : Goal → Type 0
-IsBuiltGoal goal = goal ≡ HilbertBasis
+IsBuiltGoal goal = IsTrue (is_built_goal goal)
 
 -- every item of the file is built, and every goal of the file and of the words
 pub record IsBuilt (file : FileData) (words : List Goal) : Type 0 where

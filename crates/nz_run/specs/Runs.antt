@@ -1,25 +1,27 @@
 -- What a run leaves, status by status.
-use Rattle.std.specs.Prelude.{◌≡◌, ◌⊎◌, ℕ, ◌+◌, ◌<◌, ◌≤◌, false, ◌++◌, codes, List, [], length, take, Some, None, Err}
+use Rattle.std.specs.Prelude.{◌≡◌, ◌⊎◌, ℕ, ◌+◌, ◌<◌, ◌≤◌, Bool, true, false, ◌++◌, codes, List, [], length, take, Some, None, Err}
 use Rattle.nz_vec.specs.Texts.{Text}
-use Rattle.nz_spec.specs.Vectors.{Vector}
-use Rattle.nz_spec.specs.Elements.{IsHilbertBasis}
 use Rattle.nz_input.specs.Files.{FileData}
 use Rattle.nz_input.specs.declared.kind.Goal.{Goal}
 use Rattle.nz_input.specs.Texts.{IsTextOf}
 use Rattle.nz_input.specs.Refusals.{IsRefusedAt}
-use Rattle.nz_system.specs.Meaning.{system_of, IsMeaning}
+use Rattle.nz_system.specs.Meaning.{SystemData, system_of, meaning, IsMeaning}
 use Rattle.nz_system.specs.declared.refusal.SystemRefusal.TheVariants as refusal
-use Rattle.nz_box.specs.Sides.{IsCrowded}
 use Rattle.nz_blocks.specs.Outcomes.{OutcomeData}
 use Rattle.nz_blocks.specs.Output.{text_of}
 use Rattle.nz_edge.specs.Folders.{Files, SameFiles, SameOthers, Stores}
 use Rattle.nz_edge.specs.Counts.{IsQuiet, Rose}
+use Rattle.nz_edge.specs.Watching.{Pair}
+use Rattle.nz_edge.specs.Telling.{Watched, WasTold, HasPassedAll}
+use Rattle.nz_solve.specs.Solutions.{IsSolution, IsWithin, AreToldOf, IsSolveRefusal}
+use Rattle.nz_solve.specs.declared.refusal.SolveRefusal.{SolveRefusal}
+use Rattle.nz_solve.specs.declared.refusal.SolveRefusal.TheVariants as solve
 use Rattle.nz_words.specs.Orders.{OrderData, IsOrder, AreRefused, input_name}
 use Rattle.nz_run.specs.FileSystems.{HasMeaning}
 use Rattle.nz_run.specs.Built.{IsBuilt, IsFirstUnbuilt}
 use Rattle.nz_run.specs.Statuses.{status_line}
 use Rattle.nz_run.specs.declared.status.Status.{Status}
-use Rattle.nz_run.specs.declared.status.Status.TheVariants.{Done, Usage, Absent, ReadFault, TooLong, Grammar, Meaning, NotBuilt, Crowded, WriteFault, NoMemory}
+use Rattle.nz_run.specs.declared.status.Status.TheVariants.{Done, Usage, Absent, ReadFault, TooLong, Grammar, Meaning, NotBuilt, Line, Range, TooMany, Stopped, WriteFault, NoMemory}
 
 -- the file that is stored
 abbrev pub output_name : Text → Text
@@ -39,105 +41,122 @@ pub record IsInput (project : Text) (files : Files) (input : Text) : Type 0 wher
 abbrev pub IsShort : Text → Type 0
 IsShort input = length input ≤ most
 
--- the input is a text of this file, which breaks no rule of meaning and of which everything is built, with these goals of the words
-pub record IsReadAs (goals : List Goal) (input : Text) (file : FileData) : Type 0 where
-  pub short : IsShort input
-  pub read : IsTextOf input file
+-- the file breaks no rule of meaning and everything of it is built, with these goals of the words
+pub record IsReady (goals : List Goal) (file : FileData) : Type 0 where
   pub meaning : HasMeaning file goals
   pub built : IsBuilt file goals
 
--- the file breaks no rule of meaning and everything of it is built, with some goals of the words
-abbrev pub IsReady : FileData → Type 0
-IsReady file = (goals : List Goal) × HasMeaning file goals × IsBuilt file goals
+-- ---- what a watch is told
 
--- the outcome without a level of which the Hilbert basis alone is wanted
-abbrev pub hilbert_alone : ℕ → List Vector → OutcomeData
-hilbert_alone amb list = record {
-  amb = amb;
-  level = false;
-  modules = None;
-  hilbert = Some list;
-  degree_one = None;
-  vertices = None;
-  rays = None;
-  support = None;
-  equations = None;
-  generators = None;
-  simplices = None;
-  asked = None;
-}
+-- the watch was told nothing
+abbrev pub WasToldNothing : Watched → Watched → Type 0
+WasToldNothing before now = WasTold before now [] false
 
--- the output is the text of the list of exactly the irreducible elements of the monoid that the file defines, each once, in order
-pub record IsAnswered (file : FileData) (output : Text) : Type 0 where
-  pub list : List Vector
-  pub not_crowded : ¬ IsCrowded (system_of file)
-  pub basis : IsHilbertBasis (system_of file) list
-  pub same : output ≡ text_of (hilbert_alone file.amb list)
+-- the watch was told some pairs, and all but the last, or all, were answered true
+abbrev pub WasToldPairs : Bool → Watched → Watched → Type 0
+WasToldPairs stopped before now = (pairs : List Pair) × WasTold before now pairs stopped
 
--- the input is a text of a file, and the output the text of the list of exactly the irreducible elements of the monoid that it defines
-pub record IsSolved (goals : List Goal) (input output : Text) : Type 0 where
-  pub file : FileData
-  pub read : IsReadAs goals input file
-  pub answered : IsAnswered file output
+-- a run ends with Stopped just where its watch says stop; no stage is told before the meaning of the file is clear, nor where there is a line
+abbrev pub WatchSays : Status → Watched → Watched → Type 0
+WatchSays Done before now = WasToldPairs false before now
+WatchSays Range before now = WasToldPairs false before now
+WatchSays TooMany before now = WasToldPairs false before now
+WatchSays (Stopped k) before now = WasToldPairs true before now
+WatchSays WriteFault before now = WasToldPairs false before now
+WatchSays NoMemory before now = WasToldPairs false before now
+WatchSays status before now = WasToldNothing before now
 
--- the file is the cause of the status, where the words name these goals
-abbrev pub IsCauseIn : List Goal → FileData → Status → Type 0
-IsCauseIn goals file (Meaning i r f) = IsMeaning file goals (Err (refusal.Meaning i r f))
-IsCauseIn goals file (NotBuilt word) = HasMeaning file goals × IsFirstUnbuilt file goals word
-IsCauseIn goals file Crowded = HasMeaning file goals × IsBuilt file goals × IsCrowded (system_of file)
-IsCauseIn goals file status = ⊥
+-- ---- what is answered of a file
 
--- the input is a text of a file that is the cause of the status
-pub record IsReadCause (goals : List Goal) (input : Text) (status : Status) : Type 0 where
+-- the output is the text of exactly what is asked of the system: at its head the irreducible elements, each once, in order; these are no more than the limit
+pub record IsAnswered (s : SystemData) (limit : ℕ) (output : Text) : Type 0 where
+  pub outcome : OutcomeData
+  pub solution : IsSolution s outcome
+  pub within : IsWithin s.system limit
+  pub same : output ≡ text_of outcome
+
+-- the output answers what file and words ask, and the watch was told all stages of the file's system
+pub record IsFileSolved (goals : List Goal) (limit : ℕ) (before now : Watched) (file : FileData) (output : Text) : Type 0 where
+  pub ready : IsReady goals file
+  pub answered : IsAnswered (meaning file goals) limit output
+  pub told : HasPassedAll (AreToldOf (system_of file)) 0 before now
+
+-- the input is a text of a file, and the output answers what it and the words ask
+pub record IsSolved (goals : List Goal) (limit : ℕ) (before now : Watched) (input output : Text) : Type 0 where
   pub file : FileData
   pub short : IsShort input
   pub read : IsTextOf input file
-  pub cause : IsCauseIn goals file status
+  pub solved : IsFileSolved goals limit before now file output
 
--- the input is the cause of the status
-abbrev pub IsCause : List Goal → Text → Status → Type 0
-IsCause goals input TooLong = most < length input
-IsCause goals input (Grammar l c f) = IsShort input × IsRefusedAt input l c f
-IsCause goals input (Meaning i r f) = IsReadCause goals input (Meaning i r f)
-IsCause goals input (NotBuilt word) = IsReadCause goals input (NotBuilt word)
-IsCause goals input Crowded = IsReadCause goals input Crowded
-IsCause goals input Done = ⊥
-IsCause goals input Usage = ⊥
-IsCause goals input Absent = ⊥
-IsCause goals input ReadFault = ⊥
-IsCause goals input WriteFault = ⊥
-IsCause goals input NoMemory = ⊥
+-- the system of the file, of which everything is built, is refused, with what the watch was told
+pub record IsUnsolved (goals : List Goal) (limit : ℕ) (before now : Watched) (file : FileData) (r : SolveRefusal) : Type 0 where
+  pub ready : IsReady goals file
+  pub refused : IsSolveRefusal (system_of file) limit before now r
 
--- the input is the cause of the status, or memory ran out
-abbrev pub IsCauseOrMemory : List Goal → Text → Status → Type 0
-IsCauseOrMemory goals input NoMemory = Unit {0}
-IsCauseOrMemory goals input status = IsCause goals input status
+-- the status of a refusal
+abbrev pub status_of : SolveRefusal → Status
+status_of (solve.Line v) = Line v
+status_of solve.Range = Range
+status_of solve.TooMany = TooMany
+status_of (solve.Stopped k) = Stopped k
+status_of solve.NoMemory = NoMemory
 
--- the file is the cause of the status, or memory ran out
-abbrev pub IsCauseInOrMemory : List Goal → FileData → Status → Type 0
-IsCauseInOrMemory goals file NoMemory = Unit {0}
-IsCauseInOrMemory goals file status = IsCauseIn goals file status
+-- the file is the cause of the status, where the words name these goals; memory may run out before a stage was told, or among the stages
+abbrev pub IsCauseIn : List Goal → (limit : ℕ) → (before now : Watched) → FileData → Status → Type 0
+IsCauseIn goals limit before now file (Meaning i r f) = IsMeaning file goals (Err (refusal.Meaning i r f)) × WasToldNothing before now
+IsCauseIn goals limit before now file (NotBuilt word) = HasMeaning file goals × IsFirstUnbuilt file goals word × WasToldNothing before now
+IsCauseIn goals limit before now file (Line v) = IsUnsolved goals limit before now file (solve.Line v)
+IsCauseIn goals limit before now file Range = IsUnsolved goals limit before now file solve.Range
+IsCauseIn goals limit before now file TooMany = IsUnsolved goals limit before now file solve.TooMany
+IsCauseIn goals limit before now file (Stopped k) = IsUnsolved goals limit before now file (solve.Stopped k)
+IsCauseIn goals limit before now file NoMemory = WasToldNothing before now ⊎ IsUnsolved goals limit before now file solve.NoMemory
+IsCauseIn goals limit before now file status = ⊥
+
+-- the input is a text of a file that is the cause of the status
+pub record IsReadCause (goals : List Goal) (limit : ℕ) (before now : Watched) (input : Text) (status : Status) : Type 0 where
+  pub file : FileData
+  pub short : IsShort input
+  pub read : IsTextOf input file
+  pub cause : IsCauseIn goals limit before now file status
+
+-- the input is the cause of the status, or memory ran out: before a stage was told, or among the stages of the file's system
+abbrev pub IsCause : List Goal → (limit : ℕ) → (before now : Watched) → Text → Status → Type 0
+IsCause goals limit before now input TooLong = (most < length input) × WasToldNothing before now
+IsCause goals limit before now input (Grammar l c f) = IsShort input × IsRefusedAt input l c f × WasToldNothing before now
+IsCause goals limit before now input (Meaning i r f) = IsReadCause goals limit before now input (Meaning i r f)
+IsCause goals limit before now input (NotBuilt word) = IsReadCause goals limit before now input (NotBuilt word)
+IsCause goals limit before now input (Line v) = IsReadCause goals limit before now input (Line v)
+IsCause goals limit before now input Range = IsReadCause goals limit before now input Range
+IsCause goals limit before now input TooMany = IsReadCause goals limit before now input TooMany
+IsCause goals limit before now input (Stopped k) = IsReadCause goals limit before now input (Stopped k)
+IsCause goals limit before now input NoMemory = WasToldNothing before now ⊎ IsReadCause goals limit before now input NoMemory
+IsCause goals limit before now input Done = ⊥
+IsCause goals limit before now input Usage = ⊥
+IsCause goals limit before now input Absent = ⊥
+IsCause goals limit before now input ReadFault = ⊥
+IsCause goals limit before now input WriteFault = ⊥
+
+-- ---- what a run leaves
 
 -- what the status says of the input and of the files before and after it was solved; the name is that of the output
-abbrev pub Leaves : List Goal → Text → Text → Status → Files → Files → Type 0
-Leaves goals name input Done old new = (output : Text) × IsSolved goals input output × Stores name output old new
-Leaves goals name input WriteFault old new = (output : Text) × IsSolved goals input output × SameOthers name old new
-Leaves goals name input NoMemory old new = SameFiles old new
-Leaves goals name input status old new = IsCause goals input status × SameFiles old new
+abbrev pub Leaves : List Goal → (limit : ℕ) → (before now : Watched) → (name input : Text) → Status → Files → Files → Type 0
+Leaves goals limit before now name input Done old new = (output : Text) × IsSolved goals limit before now input output × Stores name output old new
+Leaves goals limit before now name input WriteFault old new = (output : Text) × IsSolved goals limit before now input output × SameOthers name old new
+Leaves goals limit before now name input status old new = IsCause goals limit before now input status × SameFiles old new
 
 -- what the status of a run of the project with these goals says of the files; the counts of faults tell whether reading had one
-abbrev pub ExplainsFor : Text → List Goal → ℕ → ℕ → Status → Files → Files → Type 0
-ExplainsFor project goals faults faults' Absent old new = (IsQuiet faults faults' → old (input_name project) ≡ None) × SameFiles old new
-ExplainsFor project goals faults faults' ReadFault old new = SameFiles old new
-ExplainsFor project goals faults faults' NoMemory old new = SameFiles old new
-ExplainsFor project goals faults faults' Usage old new = ⊥
-ExplainsFor project goals faults faults' status old new = (input : Text) × IsInput project old input × Leaves goals (output_name project) input status old new
+abbrev pub ExplainsFor : Text → List Goal → (limit : ℕ) → (before now : Watched) → (faults faults' : ℕ) → Status → Files → Files → Type 0
+ExplainsFor project goals limit before now faults faults' Usage old new = ⊥
+ExplainsFor project goals limit before now faults faults' Absent old new = (IsQuiet faults faults' → old (input_name project) ≡ None) × SameFiles old new
+ExplainsFor project goals limit before now faults faults' ReadFault old new = SameFiles old new
+ExplainsFor project goals limit before now faults faults' NoMemory old new = SameFiles old new × (WasToldNothing before now ⊎ ((input : Text) × IsInput project old input × IsReadCause goals limit before now input NoMemory))
+ExplainsFor project goals limit before now faults faults' status old new = (input : Text) × IsInput project old input × Leaves goals limit before now (output_name project) input status old new
 
--- what the status of a run says of the words and the files
-abbrev pub Explains : List Text → ℕ → ℕ → Status → Files → Files → Type 0
-Explains words faults faults' Usage old new = AreRefused words × SameFiles old new
-Explains words faults faults' NoMemory old new = SameFiles old new
-Explains words faults faults' status old new = (order : OrderData) × IsOrder words order × ExplainsFor order.project order.goals faults faults' status old new
+-- what the status of a run says of the words, the files and the watch
+abbrev pub Explains : List Text → (before now : Watched) → (faults faults' : ℕ) → Status → Files → Files → Type 0
+Explains words before now faults faults' Usage old new = AreRefused words × SameFiles old new
+Explains words before now faults faults' NoMemory old new = SameFiles old new × (WasToldNothing before now ⊎ ((order : OrderData) × IsOrder words order × ExplainsFor order.project order.goals order.limit before now faults faults' NoMemory old new))
+Explains words before now faults faults' status old new = (order : OrderData) × IsOrder words order × ExplainsFor order.project order.goals order.limit before now faults faults' status old new
 
 -- the status is this one, unless memory ran out
 abbrev pub Decided : Status → Status → Type 0

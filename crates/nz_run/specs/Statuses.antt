@@ -1,6 +1,9 @@
 -- The code and the line of each status.
 use Rattle.std.specs.Prelude.{ℕ, ◌++◌, codes, decimal}
+use Rattle.std.specs.List.{flat_map}
+use Rattle.std.specs.Fmt.{signed_decimal}
 use Rattle.nz_vec.specs.Texts.{Text}
+use Rattle.nz_spec.specs.Vectors.{Vector}
 use Rattle.nz_input.specs.declared.refusal.Fault.{Fault}
 use Rattle.nz_input.specs.declared.refusal.Fault.TheVariants as fault
 use Rattle.nz_input.specs.Words.{keyword, goal_word}
@@ -10,7 +13,7 @@ use Rattle.nz_blocks.specs.Lines.{line}
 use Rattle.nz_run.specs.declared.built.Keyword.{Keyword}
 use Rattle.nz_run.specs.declared.built.Keyword.TheVariants as word
 use Rattle.nz_run.specs.declared.status.Status.{Status}
-use Rattle.nz_run.specs.declared.status.Status.TheVariants.{Done, Usage, Absent, ReadFault, TooLong, Grammar, Meaning, NotBuilt, Crowded, WriteFault, NoMemory}
+use Rattle.nz_run.specs.declared.status.Status.TheVariants.{Done, Usage, Absent, ReadFault, TooLong, Grammar, Meaning, NotBuilt, Line, Range, TooMany, Stopped, WriteFault, NoMemory}
 
 -- the exit status of the program
 abbrev pub code_of : Status → ℕ
@@ -21,10 +24,13 @@ code_of ReadFault = 4
 code_of TooLong = 5
 code_of (Grammar l c f) = 6
 code_of (Meaning i r f) = 7
+code_of (Line v) = 8
+code_of Range = 10
+code_of TooMany = 11
+code_of (Stopped k) = 12
 code_of WriteFault = 13
 code_of NoMemory = 14
 code_of (NotBuilt w) = 15
-code_of Crowded = 16
 
 -- the name of a fault
 abbrev pub fault_name : Fault → Text
@@ -57,6 +63,10 @@ word_of (word.Goal goal) = goal_word goal
 abbrev pub place_line : Text → ℕ → Text → ℕ → Text → Text
 place_line first m second n fault = line (first ++ decimal m ++ second ++ decimal n ++ codes ": " ++ fault)
 
+-- each entry behind a space
+abbrev pub behind_spaces : Vector → Text
+behind_spaces v = flat_map (λ z. codes " " ++ signed_decimal z) v
+
 -- the line on the console
 abbrev pub status_line : Status → Text
 status_line Done = line (codes "done")
@@ -67,6 +77,9 @@ status_line TooLong = line (codes "input too long")
 status_line (Grammar l c f) = place_line (codes "line ") l (codes " column ") c (fault_name f)
 status_line (Meaning i r f) = place_line (codes "item ") i (codes " row ") r (rule_name f)
 status_line (NotBuilt w) = line (codes "not built: " ++ word_of w)
-status_line Crowded = line (codes "crowded")
+status_line (Line v) = line (codes "line:" ++ behind_spaces v)
+status_line Range = line (codes "range")
+status_line TooMany = line (codes "too many")
+status_line (Stopped k) = line (codes "stopped at stage " ++ decimal k)
 status_line WriteFault = line (codes "write fault")
 status_line NoMemory = line (codes "no memory")

@@ -31,7 +31,12 @@ fn is_built_item(item: &Item) -> bool
     ensures { IsTrue result ↔ IsBuiltItem item.now }
 {
     match item.kind {
+        Kind::Cone => true,
+        Kind::ConeAndLattice => true,
+        Kind::Inequalities => true,
+        Kind::Equations => true,
         Kind::Congruences => true,
+        Kind::Signs => true,
         _ => false,
     }
 }
@@ -49,11 +54,15 @@ fn unbuilt_item(items: &Items) -> Option<Kind>
     None
 }
 
-fn is_hilbert_basis(goal: Goal) -> bool
+fn is_built_goal(goal: Goal) -> bool
     ensures { IsTrue result ↔ IsBuiltGoal goal }
 {
     match goal {
         Goal::HilbertBasis => true,
+        Goal::ExtremeRays => true,
+        Goal::SupportHyperplanes => true,
+        Goal::Triangulation => true,
+        Goal::PrimalMode => true,
         _ => false,
     }
 }
@@ -64,7 +73,7 @@ fn unbuilt_goal(goals: &Goals) -> Option<Goal>
 {
     for place in 0..goals.len() {
         let goal = goals.at(place);
-        if !is_hilbert_basis(goal) {
+        if !is_built_goal(goal) {
             return Some(goal);
         }
     }

@@ -3,11 +3,12 @@ ghost use Rattle.std.specs.Prelude.{◌≡◌};
 use crate::Keyword;
 use nz_input::Fault;
 use nz_system::MeaningFault;
+use nz_vec::Ints;
 
 /// What a run ends with. On every status but `Done` and `WriteFault` the files are as before.
-#[derive(Clone, Copy, Debug, PartialEq, Eq, Drop)]
+#[derive(Drop)]
 pub enum Status {
-    /// The text of the Hilbert basis is stored.
+    /// The text of what was asked is stored.
     Done,
     /// The words order nothing.
     Usage,
@@ -31,8 +32,17 @@ pub enum Status {
     },
     /// The file has an item, or the file or the words a goal, that the program does not solve yet.
     NotBuilt(Keyword),
-    /// The box of the vectors with entries from 0 to the least common multiple of the moduli has more than a million vectors.
-    Crowded,
+    /// The members have a line: this vector and its opposite are members. It is no multiple of a shorter member, and its first nonzero
+    /// entry is positive.
+    Line(Ints),
+    /// A number is no value of 128 bits. Which numbers make it so is not stated.
+    Range,
+    /// More vectors would have to be held than the limit allows.
+    TooMany,
+    /// The watch said stop at this stage.
+    Stopped {
+        stage: u64,
+    },
     /// The output could not be stored; what stands under its name is not known.
     WriteFault,
     /// Memory ran out.
@@ -54,10 +64,13 @@ impl Status {
             Status::TooLong => 5,
             Status::Grammar { .. } => 6,
             Status::Meaning { .. } => 7,
+            Status::Line(_) => 8,
+            Status::Range => 10,
+            Status::TooMany => 11,
+            Status::Stopped { .. } => 12,
             Status::WriteFault => 13,
             Status::NoMemory => 14,
             Status::NotBuilt(_) => 15,
-            Status::Crowded => 16,
         }
     }
 }

@@ -1,16 +1,18 @@
 //! The line of a status, written to the console without memory.
 ghost use Rattle.std.specs.Prelude.{◌≡◌, ◌≤◌, ◌++◌, IsFalse, codes, decimal};
+ghost use Rattle.std.specs.Fmt.{signed_decimal};
 ghost use Rattle.nz_edge.specs.Counts.{Rose};
 ghost use Rattle.nz_edge.specs.Folders.{BothTold};
 ghost use Rattle.nz_edge.specs.Answers.{PutAll};
 ghost use Rattle.nz_blocks.specs.Lines.{line};
-ghost use Rattle.nz_run.specs.Statuses.{fault_name, rule_name, place_line, status_line};
+ghost use Rattle.nz_run.specs.Statuses.{fault_name, rule_name, place_line, behind_spaces, status_line};
 
 use crate::Status;
 use itoa::Buffer;
 use nz_edge::{Sink, put_all};
 use nz_input::Fault;
 use nz_system::MeaningFault;
+use nz_vec::Ints;
 
 fn name_of(fault: Fault) -> &'static [u8]
     ensures { result.now ≡ fault_name fault }
@@ -78,6 +80,58 @@ fn put_text<S: Sink>(console: &mut S, label: &[u8], text: &[u8]) -> bool
     }
 }
 
+// An entry behind a space.
+fn put_entry<S: Sink>(console: &mut S, entry: i128) -> bool
+    ensures written { BothTold (S.written console.old) (S.written console.new) (λ old new. PutAll old new (codes " " ++ signed_decimal entry) result) }
+    ensures cause { IsFalse result → Rose (S.faults console.old) (S.faults console.new) }
+    ensures later { S.faults console.old ≤ S.faults console.new }
+{
+    let mut buffer = Buffer::new();
+    put_two(console, b" ", buffer.format(entry).as_bytes())
+}
+
+// Each entry behind a space.
+fn put_entries<S: Sink>(console: &mut S, entries: &Ints) -> bool
+    ensures written { BothTold (S.written console.old) (S.written console.new) (λ old new. PutAll old new (behind_spaces entries.now) result) }
+    ensures cause { IsFalse result → Rose (S.faults console.old) (S.faults console.new) }
+    ensures later { S.faults console.old ≤ S.faults console.new }
+{
+    for place in 0..entries.len() {
+        if !put_entry(console, entries.at(place)) {
+            return false;
+        }
+    }
+    true
+}
+
+// A line of the monoid.
+fn put_line<S: Sink>(console: &mut S, entries: &Ints) -> bool
+    ensures written { BothTold (S.written console.old) (S.written console.new) (λ old new. PutAll old new (line (codes "line:" ++ behind_spaces entries.now)) result) }
+    ensures cause { IsFalse result → Rose (S.faults console.old) (S.faults console.new) }
+    ensures later { S.faults console.old ≤ S.faults console.new }
+{
+    if !put_all(console, b"line:") {
+        return false;
+    }
+    if !put_entries(console, entries) {
+        return false;
+    }
+    put_all(console, b"\n")
+}
+
+// A label, a number and an end of line.
+fn put_number_line<S: Sink>(console: &mut S, label: &[u8], number: u64) -> bool
+    ensures written { BothTold (S.written console.old) (S.written console.new) (λ old new. PutAll old new (line (label.now ++ decimal number)) result) }
+    ensures cause { IsFalse result → Rose (S.faults console.old) (S.faults console.new) }
+    ensures later { S.faults console.old ≤ S.faults console.new }
+{
+    if put_number(console, label, number) {
+        put_all(console, b"\n")
+    } else {
+        false
+    }
+}
+
 // A place, and what is wrong there.
 fn put_place<S: Sink>(
     console: &mut S,
@@ -101,8 +155,8 @@ fn put_place<S: Sink>(
 }
 
 /// Writes the line of the status. False only where the console had a fault; some first bytes of the line were written then.
-pub fn put_status<S: Sink>(console: &mut S, status: Status) -> bool
-    ensures written { BothTold (S.written console.old) (S.written console.new) (λ old new. PutAll old new (status_line status) result) }
+pub fn put_status<S: Sink>(console: &mut S, status: &Status) -> bool
+    ensures written { BothTold (S.written console.old) (S.written console.new) (λ old new. PutAll old new (status_line status.now) result) }
     ensures cause { IsFalse result → Rose (S.faults console.old) (S.faults console.new) }
     ensures later { S.faults console.old ≤ S.faults console.new }
 {
@@ -111,22 +165,32 @@ pub fn put_status<S: Sink>(console: &mut S, status: Status) -> bool
             line,
             column,
             fault,
-        } => put_place(console, b"line ", line, b" column ", column, name_of(fault)),
+        } => put_place(
+            console,
+            b"line ",
+            *line,
+            b" column ",
+            *column,
+            name_of(*fault),
+        ),
         Status::Meaning { item, row, fault } => put_place(
             console,
             b"item ",
-            item,
+            *item,
             b" row ",
-            u64::from(row),
-            rule_name(fault),
+            u64::from(*row),
+            rule_name(*fault),
         ),
         Status::NotBuilt(keyword) => put_text(console, b"not built: ", keyword.word()),
+        Status::Line(vector) => put_line(console, vector),
+        Status::Stopped { stage } => put_number_line(console, b"stopped at stage ", *stage),
         Status::Done => put_all(console, b"done\n"),
         Status::Usage => put_all(console, b"usage: nmz [options] PROJECT\n"),
         Status::Absent => put_all(console, b"no input file\n"),
         Status::ReadFault => put_all(console, b"read fault\n"),
         Status::TooLong => put_all(console, b"input too long\n"),
-        Status::Crowded => put_all(console, b"crowded\n"),
+        Status::Range => put_all(console, b"range\n"),
+        Status::TooMany => put_all(console, b"too many\n"),
         Status::WriteFault => put_all(console, b"write fault\n"),
         Status::NoMemory => put_all(console, b"no memory\n"),
     }

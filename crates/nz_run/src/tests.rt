@@ -1,8 +1,8 @@
-//! Runs over files and a console in memory: the worked files, and each status once.
-ghost use Rattle.std.specs.Prelude.{◌≤◌, IfOk, length};
+//! Runs over files, a console and a watch in memory: the worked files, and each status once.
+ghost use Rattle.std.specs.Prelude.{◌≤◌, IfOk, IfSome, length};
 
 use crate::run;
-use nz_edge::{MemFolder, MemSink, QuietWatch, Watch};
+use nz_edge::{MemFolder, MemSink, MemWatch, Watch};
 use nz_vec::Bytes;
 use std::alloc::Global;
 use std::test::Fail;
@@ -36,19 +36,43 @@ fn failing(alloc: Global, call: u64) -> Result<Vec<u64>, Fail> {
     Ok(calls)
 }
 
+// The number of the call that asks to stop, after so many that do not.
+fn stop_at(passed: Option<u8>) -> Option<u64>
+    ensures { IfSome result (λ number. 1 ≤ number) }
+{
+    match passed {
+        Some(passed) => Some(passed as u64 + 1),
+        None => None,
+    }
+}
+
+fn told_text(alloc: Global, watch: &Box<dyn Watch>) -> Result<String, Fail> {
+    let mut text = String::new(alloc);
+    for place in 0..10 {
+        match watch.pair(place) {
+            Some((number, count)) => write!(text, " {number} {count}")?,
+            None => return Ok(text),
+        }
+    }
+    Ok(text)
+}
+
 #[derive(Drop)]
 struct Ran {
     folder: MemFolder,
     console: MemSink,
+    told: String,
     code: u8,
 }
 
+// The words stand behind one another, with a space between two.
 fn run_on(
     alloc: Global,
     line: &str,
     input: Option<&[u8]>,
     folder_fails: u64,
     console_fails: u64,
+    passed: Option<u8>,
 ) -> Result<Ran, Fail> {
     let mut folder = MemFolder::new(
         alloc,
@@ -56,7 +80,8 @@ fn run_on(
         failing(alloc, folder_fails)?,
     )?;
     let mut console = MemSink::new(alloc, 100, failing(alloc, console_fails)?)?;
-    let mut watch: Box<dyn Watch> = Box::new(alloc, QuietWatch::new())?;
+    let watch = MemWatch::new(alloc, 10, stop_at(passed))?;
+    let mut watch: Box<dyn Watch> = Box::new(alloc, watch)?;
     let mut words = Vec::new(alloc);
     for part in line.split(' ') {
         words.push(String::from_str(alloc, part)?)?;
@@ -65,13 +90,14 @@ fn run_on(
     Ok(Ran {
         folder,
         console,
+        told: told_text(alloc, &watch)?,
         code: status.code(),
     })
 }
 
 #[test]
-fn runs(rt: HostRuntime) -> Result<(), Fail> {
-    for (word, input, folder_fails, console_fails, code, line, stored) in [
+fn statuses(rt: HostRuntime) -> Result<(), Fail> {
+    for (words, input, folder_fails, console_fails, code, line, stored) in [
         (
             "p",
             Some(FIRST),
@@ -91,36 +117,7 @@ fn runs(rt: HostRuntime) -> Result<(), Fail> {
             Some(FIRST_TEXT),
         ),
         (
-            "p",
-            Some(b"amb_space 2\n".as_slice()),
-            0,
-            0,
-            0,
-            b"done\n".as_slice(),
-            Some(b"amb_space 2\nhomogeneous\n\n2 Hilbert basis elements:\n0 1\n1 0\n".as_slice()),
-        ),
-        (
-            "p",
-            Some(b"amb_space 2\ncongruences 1\n1 2 3\n".as_slice()),
-            0,
-            0,
-            0,
-            b"done\n".as_slice(),
-            Some(
-                b"amb_space 2\nhomogeneous\n\n3 Hilbert basis elements:\n0 3\n1 1\n3 0\n".as_slice(),
-            ),
-        ),
-        (
-            "p",
-            Some(b"amb_space 1 congruences 2 4 8 -3 27 HilbertBasis".as_slice()),
-            0,
-            0,
-            0,
-            b"done\n".as_slice(),
-            Some(b"amb_space 1\nhomogeneous\n\n1 Hilbert basis elements:\n18\n".as_slice()),
-        ),
-        (
-            "--HilbertBasis --Limit 8 p.in --Stages=0 --Verbose",
+            "--HilbertBasis --Limit 4 p.in --Stages=0 --Verbose",
             Some(FIRST),
             0,
             0,
@@ -128,24 +125,7 @@ fn runs(rt: HostRuntime) -> Result<(), Fail> {
             b"done\n".as_slice(),
             Some(FIRST_TEXT),
         ),
-        (
-            "p --ExtremeRays",
-            Some(FIRST),
-            0,
-            0,
-            15,
-            b"not built: ExtremeRays\n".as_slice(),
-            None,
-        ),
-        (
-            "--Deg1Elements p",
-            Some(FIRST),
-            0,
-            0,
-            7,
-            b"item 0 row 0: NoGrading\n".as_slice(),
-            None,
-        ),
+        ("p", Some(FIRST), 0, 1, 0, b"".as_slice(), Some(FIRST_TEXT)),
         (
             "",
             None,
@@ -182,33 +162,6 @@ fn runs(rt: HostRuntime) -> Result<(), Fail> {
             0,
             6,
             b"line 1 column 12: TooWide\n".as_slice(),
-            None,
-        ),
-        (
-            "p",
-            Some(FIRST),
-            2,
-            0,
-            13,
-            b"write fault\n".as_slice(),
-            None,
-        ),
-        (
-            "p",
-            Some(b"amb_space 2\ncone 1\n1 1\n".as_slice()),
-            0,
-            0,
-            15,
-            b"not built: cone\n".as_slice(),
-            None,
-        ),
-        (
-            "p",
-            Some(b"amb_space 2\nExtremeRays\n".as_slice()),
-            0,
-            0,
-            15,
-            b"not built: ExtremeRays\n".as_slice(),
             None,
         ),
         (
@@ -257,8 +210,8 @@ fn runs(rt: HostRuntime) -> Result<(), Fail> {
             None,
         ),
         (
-            "p",
-            Some(b"amb_space 1\nDeg1Elements\n".as_slice()),
+            "--Deg1Elements p",
+            Some(FIRST),
             0,
             0,
             7,
@@ -276,19 +229,301 @@ fn runs(rt: HostRuntime) -> Result<(), Fail> {
         ),
         (
             "p",
-            Some(b"amb_space 3\ncongruences 1\n1 1 1 100\n".as_slice()),
+            Some(FIRST),
+            2,
             0,
-            0,
-            16,
-            b"crowded\n".as_slice(),
+            13,
+            b"write fault\n".as_slice(),
             None,
         ),
-        ("p", Some(FIRST), 0, 1, 0, b"".as_slice(), Some(FIRST_TEXT)),
+        (
+            "p --DualMode",
+            Some(FIRST),
+            0,
+            0,
+            15,
+            b"not built: DualMode\n".as_slice(),
+            None,
+        ),
+        (
+            "p",
+            Some(b"amb_space 2\nDualMode\ngrading\n1 1\n".as_slice()),
+            0,
+            0,
+            15,
+            b"not built: grading\n".as_slice(),
+            None,
+        ),
     ] {
-        let ran = run_on(rt.alloc(), word, input, folder_fails, console_fails)?;
+        let ran = run_on(rt.alloc(), words, input, folder_fails, console_fails, None)?;
         assert_eq!(rt; ran.code, code);
         assert_eq!(rt; ran.console.bytes(), line);
         assert!(rt; ran.folder.file("p.out") == stored);
+    }
+    Ok(())
+}
+
+const MAGIC: &[u8] =
+    b"/* magic squares */\namb_space 9\nequations 7\n1 1 1 -1 -1 -1 0 0 0\n1 1 1 0 0 0 -1 -1 -1\n0 1 1 -1 0 0 -1 0 0\n1 0 1 0 -1 0 0 -1 0\n1 1 0 0 0 -1 0 0 -1\n0 1 1 0 -1 0 0 0 -1\n1 1 0 0 -1 0 -1 0 0\n";
+
+const MAGIC_TEXT: &[u8] =
+    b"amb_space 9\nhomogeneous\n\n5 Hilbert basis elements:\n0 2 1 2 1 0 1 0 2\n1 0 2 2 1 0 0 2 1\n1 1 1 1 1 1 1 1 1\n1 2 0 0 1 2 2 0 1\n2 0 1 0 1 2 1 2 0\n";
+
+const CONE: &[u8] =
+    b"amb_space 2\ncone 2\n1 3\n2 1\nHilbertBasis\nExtremeRays\nSupportHyperplanes\nTriangulation\n";
+
+const CONE_TEXT: &[u8] =
+    b"amb_space 2\nhomogeneous\n\n4 Hilbert basis elements:\n1 1\n1 2\n1 3\n2 1\n\n2 extreme rays:\n1 3\n2 1\n\n2 support hyperplanes:\n-1  2\n 3 -1\n\n0 equations:\n\n2 extreme generators:\n1 3\n2 1\n\n1 simplices:\n1 2\n";
+
+// What each file gives: the line, what is stored, and what the watch was told.
+#[test]
+fn worked_files(rt: HostRuntime) -> Result<(), Fail> {
+    for (words, input, passed, line, stored, told) in [
+        (
+            "p",
+            FIRST,
+            None,
+            b"done\n".as_slice(),
+            Some(FIRST_TEXT),
+            " 2 2",
+        ),
+        (
+            "p",
+            b"amb_space 2\n".as_slice(),
+            None,
+            b"done\n".as_slice(),
+            Some(b"amb_space 2\nhomogeneous\n\n2 Hilbert basis elements:\n0 1\n1 0\n".as_slice()),
+            " 2 2",
+        ),
+        (
+            "p",
+            b"amb_space 2\ncongruences 1\n1 2 3\n".as_slice(),
+            None,
+            b"done\n".as_slice(),
+            Some(
+                b"amb_space 2\nhomogeneous\n\n3 Hilbert basis elements:\n0 3\n1 1\n3 0\n".as_slice(),
+            ),
+            " 2 2",
+        ),
+        (
+            "p",
+            b"amb_space 1 congruences 2 4 8 -3 27 HilbertBasis".as_slice(),
+            None,
+            b"done\n".as_slice(),
+            Some(b"amb_space 1\nhomogeneous\n\n1 Hilbert basis elements:\n18\n".as_slice()),
+            " 1 1",
+        ),
+        (
+            "p",
+            CONE,
+            None,
+            b"done\n".as_slice(),
+            Some(CONE_TEXT),
+            " 2 2",
+        ),
+        (
+            "p --Limit 7",
+            CONE,
+            None,
+            b"done\n".as_slice(),
+            Some(CONE_TEXT),
+            " 2 2",
+        ),
+        (
+            "p --Limit 3",
+            CONE,
+            None,
+            b"too many\n".as_slice(),
+            None,
+            " 2 2",
+        ),
+        (
+            "p",
+            CONE,
+            Some(0),
+            b"stopped at stage 2\n".as_slice(),
+            None,
+            " 2 2",
+        ),
+        (
+            "p",
+            b"amb_space 2\ncone_and_lattice 2\n1 0\n1 2\n".as_slice(),
+            None,
+            b"done\n".as_slice(),
+            Some(b"amb_space 2\nhomogeneous\n\n2 Hilbert basis elements:\n1 0\n1 2\n".as_slice()),
+            " 2 2",
+        ),
+        (
+            "p",
+            b"amb_space 2\ncone 2\n1 0\n1 2\n".as_slice(),
+            None,
+            b"done\n".as_slice(),
+            Some(
+                b"amb_space 2\nhomogeneous\n\n3 Hilbert basis elements:\n1 0\n1 1\n1 2\n".as_slice(),
+            ),
+            " 2 2",
+        ),
+        (
+            "p",
+            b"amb_space 2\nequations 1\n1 1\n".as_slice(),
+            None,
+            b"done\n".as_slice(),
+            Some(b"amb_space 2\nhomogeneous\n\n0 Hilbert basis elements:\n".as_slice()),
+            "",
+        ),
+        (
+            "p",
+            b"amb_space 2\ninequalities 1\n1 0\n".as_slice(),
+            None,
+            b"line: 0 1\n".as_slice(),
+            None,
+            "",
+        ),
+        (
+            "p",
+            b"amb_space 3 inequalities 1 0 0 1 equations 1 1 2 0 congruences 1 1 0 0 3".as_slice(),
+            None,
+            b"line: 6 -3 0\n".as_slice(),
+            None,
+            "",
+        ),
+        (
+            "p",
+            MAGIC,
+            None,
+            b"done\n".as_slice(),
+            Some(MAGIC_TEXT),
+            " 3 3 4 4",
+        ),
+        (
+            "p",
+            MAGIC,
+            Some(1),
+            b"stopped at stage 4\n".as_slice(),
+            None,
+            " 3 3 4 4",
+        ),
+        (
+            "p",
+            b"amb_space 2\nsigns\n1 -1\n".as_slice(),
+            None,
+            b"done\n".as_slice(),
+            Some(b"amb_space 2\nhomogeneous\n\n2 Hilbert basis elements:\n0 -1\n1  0\n".as_slice()),
+            " 2 2",
+        ),
+        (
+            "p",
+            b"amb_space 2\ncone 2\n1 0\n1 1000000\n".as_slice(),
+            None,
+            b"too many\n".as_slice(),
+            None,
+            " 2 2",
+        ),
+        (
+            "p",
+            b"amb_space 3\ncone 3\n1000000000000000000 1 0\n0 1000000000000000000 1\n1 0 1000000000000000000\n".as_slice(),
+            None,
+            b"range\n".as_slice(),
+            None,
+            "",
+        ),
+        (
+            "p",
+            b"amb_space 2\ncone 2\n1000000007 1\n1000000006 1\n".as_slice(),
+            None,
+            b"done\n".as_slice(),
+            Some(
+                b"amb_space 2\nhomogeneous\n\n2 Hilbert basis elements:\n1000000006 1\n1000000007 1\n".as_slice(),
+            ),
+            " 2 2",
+        ),
+        (
+            "p",
+            b"amb_space 2\ncone 0\n".as_slice(),
+            None,
+            b"done\n".as_slice(),
+            Some(b"amb_space 2\nhomogeneous\n\n0 Hilbert basis elements:\n".as_slice()),
+            "",
+        ),
+        (
+            "p --SupportHyperplanes",
+            b"amb_space 2\ncone 1\n1 2\nHilbertBasis\n".as_slice(),
+            None,
+            b"done\n".as_slice(),
+            Some(
+                b"amb_space 2\nhomogeneous\n\n1 Hilbert basis elements:\n1 2\n\n1 support hyperplanes:\n1 0\n\n1 equations:\n-2 1\n".as_slice(),
+            ),
+            " 1 1",
+        ),
+    ] {
+        let ran = run_on(rt.alloc(), words, Some(input), 0, 0, passed)?;
+        assert_eq!(rt; ran.console.bytes(), line);
+        assert!(rt; ran.folder.file("p.out") == stored);
+        assert_eq!(rt; ran.told.as_str(), told);
+    }
+    Ok(())
+}
+
+fn push_entry(text: &mut String, entry: u32) -> Result<(), Fail> {
+    if entry < 100 {
+        text.push_str(" ")?;
+    }
+    if entry < 10 {
+        text.push_str(" ")?;
+    }
+    write!(text, "{entry}")?;
+    Ok(())
+}
+
+// The 5,151 vectors of three entries with the sum 100.
+fn sums_of_a_hundred(alloc: Global) -> Result<String, Fail> {
+    let mut text = String::from_str(
+        alloc,
+        "amb_space 3\nhomogeneous\n\n5151 Hilbert basis elements:\n",
+    )?;
+    for number in 0..10_201u32 {
+        let first = number / 101;
+        let second = number % 101;
+        if first + second <= 100 {
+            push_entry(&mut text, first)?;
+            text.push_str(" ")?;
+            push_entry(&mut text, second)?;
+            text.push_str(" ")?;
+            push_entry(&mut text, 100 - first - second)?;
+            text.push_str("\n")?;
+        }
+    }
+    Ok(text)
+}
+
+fn unit_vectors(alloc: Global, width: u32) -> Result<String, Fail> {
+    let mut text = String::from_str(
+        alloc,
+        "amb_space 64\nhomogeneous\n\n64 Hilbert basis elements:\n",
+    )?;
+    for number in 0..width * width {
+        let column = number % width;
+        let is_one = number / width + column + 1 == width;
+        text.push_str(if is_one { "1" } else { "0" })?;
+        text.push_str(if column + 1 == width { "\n" } else { " " })?;
+    }
+    Ok(text)
+}
+
+#[test]
+fn long_lists(rt: HostRuntime) -> Result<(), Fail> {
+    let sums = sums_of_a_hundred(rt.alloc())?;
+    let units = unit_vectors(rt.alloc(), 64)?;
+    for (input, expected) in [
+        (
+            b"amb_space 3\ncongruences 1\n1 1 1 100\n".as_slice(),
+            sums.as_str(),
+        ),
+        (b"amb_space 64\n".as_slice(), units.as_str()),
+    ] {
+        let ran = run_on(rt.alloc(), "p", Some(input), 0, 0, None)?;
+        assert_eq!(rt; ran.console.bytes(), b"done\n".as_slice());
+        assert!(rt; ran.folder.file("p.out") == Some(expected.as_bytes()));
     }
     Ok(())
 }
@@ -304,11 +539,11 @@ fn spaces(alloc: Global, count: u32) -> Result<Vec<u8>, Fail> {
 #[test]
 fn long_inputs(rt: HostRuntime) -> Result<(), Fail> {
     let bytes = spaces(rt.alloc(), 16_777_217)?;
-    let long = run_on(rt.alloc(), "p", Some(bytes.as_slice()), 0, 0)?;
+    let long = run_on(rt.alloc(), "p", Some(bytes.as_slice()), 0, 0, None)?;
     assert_eq!(rt; long.code, 5);
     assert_eq!(rt; long.console.bytes(), b"input too long\n".as_slice());
     let bytes = spaces(rt.alloc(), 16_777_216)?;
-    let longest = run_on(rt.alloc(), "p", Some(bytes.as_slice()), 0, 0)?;
+    let longest = run_on(rt.alloc(), "p", Some(bytes.as_slice()), 0, 0, None)?;
     assert_eq!(rt; longest.code, 6);
     assert_eq!(rt;
         longest.console.bytes(),

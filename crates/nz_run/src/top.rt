@@ -3,7 +3,7 @@ ghost use Rattle.std.specs.Prelude.{◌≡◌, ◌≤◌, ◌++◌, IfOk, string
 ghost use Rattle.nz_edge.specs.Folders.{BothTold};
 ghost use Rattle.nz_words.specs.Parts.{bytes_of_each};
 ghost use Rattle.nz_words.specs.Orders.{AreRefused};
-ghost use Rattle.nz_run.specs.Runs.{Explains, ExplainsFor, Decided, PutsLine, Leaves, CountRose, StoreCount};
+ghost use Rattle.nz_run.specs.Runs.{Explains, ExplainsFor, Decided, PutsLine, Leaves, CountRose, StoreCount, WatchSays};
 
 use crate::Status;
 use crate::solving::{MOST, solved};
@@ -32,16 +32,19 @@ fn solve_and_store<F: Folder>(
     alloc: Global,
     output_name: &str,
     goals: &Goals,
+    limit: u32,
     input: &[u8],
     folder: &mut F,
+    watch: &mut Box<dyn Watch>,
 ) -> Status
-    ensures outcome { BothTold (F.files folder.old) (F.files folder.new) (Leaves goals.now output_name.now input.now result) }
+    ensures outcome { BothTold (F.files folder.old) (F.files folder.new) (Leaves goals.now limit (record { told = told watch.old; patience = patience watch.old; stops = stops watch.old }) (record { told = told watch.new; patience = patience watch.new; stops = stops watch.new }) output_name.now input.now result) }
+    ensures watch { WatchSays result (record { told = told watch.old; patience = patience watch.old; stops = stops watch.old }) (record { told = told watch.new; patience = patience watch.new; stops = stops watch.new }) }
     ensures count { StoreCount result (F.store_faults folder.old) (F.store_faults folder.new) }
     ensures faults { F.faults folder.new ≡ F.faults folder.old }
     ensures misses { F.misses folder.new ≡ F.misses folder.old }
     ensures later { F.store_faults folder.old ≤ F.store_faults folder.new }
 {
-    let text = match solved(alloc, input, goals) {
+    let text = match solved(alloc, input, goals, limit, watch) {
         Ok(text) => text,
         Err(status) => return status,
     };
@@ -52,9 +55,17 @@ fn solve_and_store<F: Folder>(
     }
 }
 
-// The run of a project with these goals of the words, up to its status line.
-fn run_project<F: Folder>(alloc: Global, project: &str, goals: &Goals, folder: &mut F) -> Status
-    ensures outcome { BothTold (F.files folder.old) (F.files folder.new) (ExplainsFor project.now goals.now (F.faults folder.old) (F.faults folder.new) result) }
+// The run of a project with these goals and this limit of the words, up to its status line.
+fn run_project<F: Folder>(
+    alloc: Global,
+    project: &str,
+    goals: &Goals,
+    limit: u32,
+    folder: &mut F,
+    watch: &mut Box<dyn Watch>,
+) -> Status
+    ensures outcome { BothTold (F.files folder.old) (F.files folder.new) (ExplainsFor project.now goals.now limit (record { told = told watch.old; patience = patience watch.old; stops = stops watch.old }) (record { told = told watch.new; patience = patience watch.new; stops = stops watch.new }) (F.faults folder.old) (F.faults folder.new) result) }
+    ensures watch { WatchSays result (record { told = told watch.old; patience = patience watch.old; stops = stops watch.old }) (record { told = told watch.new; patience = patience watch.new; stops = stops watch.new }) }
     ensures count { CountRose result (F.faults folder.old) (F.faults folder.new) (F.misses folder.old) (F.misses folder.new) (F.store_faults folder.old) (F.store_faults folder.new) }
     ensures not_usage { ¬ (result ≡ Status.Usage) }
 {
@@ -71,8 +82,10 @@ fn run_project<F: Folder>(alloc: Global, project: &str, goals: &Goals, folder: &
             alloc,
             output_name.as_str(),
             goals,
+            limit,
             input.as_slice(),
             folder,
+            watch,
         ),
         Load::Absent => Status::Absent,
         Load::Failed => Status::ReadFault,
@@ -81,14 +94,27 @@ fn run_project<F: Folder>(alloc: Global, project: &str, goals: &Goals, folder: &
 }
 
 // The run, up to its status line.
-fn run_words<F: Folder>(alloc: Global, words: &[String], folder: &mut F) -> Status
-    ensures outcome { BothTold (F.files folder.old) (F.files folder.new) (Explains (bytes_of_each words.now) (F.faults folder.old) (F.faults folder.new) result) }
+fn run_words<F: Folder>(
+    alloc: Global,
+    words: &[String],
+    folder: &mut F,
+    watch: &mut Box<dyn Watch>,
+) -> Status
+    ensures outcome { BothTold (F.files folder.old) (F.files folder.new) (Explains (bytes_of_each words.now) (record { told = told watch.old; patience = patience watch.old; stops = stops watch.old }) (record { told = told watch.new; patience = patience watch.new; stops = stops watch.new }) (F.faults folder.old) (F.faults folder.new) result) }
+    ensures watch { WatchSays result (record { told = told watch.old; patience = patience watch.old; stops = stops watch.old }) (record { told = told watch.new; patience = patience watch.new; stops = stops watch.new }) }
     ensures usage { result ≡ Status.Usage → AreRefused (bytes_of_each words.now) }
     ensures usage_always { AreRefused (bytes_of_each words.now) → Decided result Status.Usage }
     ensures count { CountRose result (F.faults folder.old) (F.faults folder.new) (F.misses folder.old) (F.misses folder.new) (F.store_faults folder.old) (F.store_faults folder.new) }
 {
     match order(alloc, words) {
-        Ok(order) => run_project(alloc, order.project.as_str(), &order.goals, folder),
+        Ok(order) => run_project(
+            alloc,
+            order.project.as_str(),
+            &order.goals,
+            order.limit,
+            folder,
+            watch,
+        ),
         Err(WordsRefusal::Usage) => Status::Usage,
         Err(WordsRefusal::NoMemory) => Status::NoMemory,
     }
@@ -96,7 +122,7 @@ fn run_words<F: Folder>(alloc: Global, words: &[String], folder: &mut F) -> Stat
 
 /// One run of the program: reads `<project>.in`, solves it, stores `<project>.out`, and writes the status line to the console.
 ///
-/// The words are those behind the program's own name. The watch is told nothing yet.
+/// The words are those behind the program's own name. The watch is told the stages of the system's algorithm as they are passed.
 pub fn run<F: Folder, S: Sink>(
     alloc: Global,
     words: &[String],
@@ -104,9 +130,10 @@ pub fn run<F: Folder, S: Sink>(
     console: &mut S,
     watch: &mut Box<dyn Watch>,
 ) -> Status
-    // What the status says of the words, the input and the files. At Done the stored text lists exactly the irreducible elements of
-    // the monoid that the input's file defines, each once, in order. Each refusal has its cause, and leaves every file as it was.
-    ensures outcome { BothTold (F.files folder.old) (F.files folder.new) (Explains (bytes_of_each words.now) (F.faults folder.old) (F.faults folder.new) result) }
+    // What the status says of the words, the input, the files and the watch. At Done the stored text lists exactly the irreducible
+    // elements of the monoid that the input's file defines, each once, in order, and what else was asked; the watch was told all stages
+    // of its system. Each refusal has its cause, and leaves every file as it was.
+    ensures outcome { BothTold (F.files folder.old) (F.files folder.new) (Explains (bytes_of_each words.now) (record { told = told watch.old; patience = patience watch.old; stops = stops watch.old }) (record { told = told watch.new; patience = patience watch.new; stops = stops watch.new }) (F.faults folder.old) (F.faults folder.new) result) }
 
     // Words that order nothing are refused, and no others.
     ensures usage { result ≡ Status.Usage → AreRefused (bytes_of_each words.now) }
@@ -115,15 +142,13 @@ pub fn run<F: Folder, S: Sink>(
     // Absent, ReadFault and WriteFault come only where the folder counted such a fault in this call.
     ensures count { CountRose result (F.faults folder.old) (F.faults folder.new) (F.misses folder.old) (F.misses folder.new) (F.store_faults folder.old) (F.store_faults folder.new) }
 
+    // Stopped comes just where the watch stopped the run, and before the meaning of the file is clear the watch is told nothing.
+    ensures watch { WatchSays result (record { told = told watch.old; patience = patience watch.old; stops = stops watch.old }) (record { told = told watch.new; patience = patience watch.new; stops = stops watch.new }) }
+
     // The console grew by the status line, or after a fault by some first bytes of it.
     ensures console { BothTold (S.written console.old) (S.written console.new) (PutsLine (S.faults console.old) (S.faults console.new) result) }
-
-    ensures stops { stops watch.new ≡ stops watch.old }
-    ensures told { told watch.new ≡ told watch.old }
-    ensures patience { patience watch.new ≡ patience watch.old }
 {
-    let _ = &watch;
-    let status = run_words(alloc, words, folder);
-    let _written = put_status(console, status);
+    let status = run_words(alloc, words, folder, watch);
+    let _written = put_status(console, &status);
     status
 }

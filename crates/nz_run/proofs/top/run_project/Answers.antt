@@ -1,10 +1,21 @@
-use Rattle.std.proofs.Common.{◌∙◌, subst}
+use Rattle.std.proofs.Common.{[], ◌∙◌, sym, subst}
 use Rattle.nz_vec.specs.Texts.{Text}
-use Rattle.nz_edge.specs.Folders.{BothTold}
-use Rattle.nz_run.specs.Runs.{Leaves}
+use Rattle.nz_edge.specs.Answers.{OnTold, LoadGives}
+use Rattle.nz_edge.specs.declared.folder.Load.TheVariants as load
+use Rattle.nz_edge.proofs.TellingLemmas.{none_told}
 use Rattle.nz_run.proofs.Composing.{loaded_and_stored}
 use Rattle.nz_run.proofs.top.run_project.Goals as goal
 
+pub returns-in-Err-clause-watch : goal.returns-in-Err-clause-watch
+returns-in-Err-clause-watch g c = ([], none_told _)
+
+pub returns-in-Err-file_name-clause-watch : goal.returns-in-Err-file_name-clause-watch
+returns-in-Err-file_name-clause-watch g c = ([], none_told _)
+
+pub returns-clause-watch : goal.returns-clause-watch
+returns-clause-watch g c = ([], none_told _)
+
 pub returns-in-Bytes-clause-outcome : goal.returns-in-Bytes-clause-outcome
-returns-in-Bytes-clause-outcome g c = loaded_and_stored c.args.project.now c.args.goals.now _ _ _ _ _ c.solve_and_store.result _ _ _ (c.as_str.ensures.value ∙ c.in-Ok.ensures) (c.as_str-in-Bytes.ensures.value ∙ c.in-Ok-file_name.ensures) c.in-Bytes.ensures.files c.in-Bytes.ensures.gives
-    (subst (λ (t : Text). BothTold (g.F.Folder.files c.load.new.self) (g.F.Folder.files c.solve_and_store.new.folder) (Leaves c.args.goals.now c.as_str-in-Bytes.result.now t c.solve_and_store.result)) c.as_slice.ensures c.solve_and_store.ensures.outcome)
+returns-in-Bytes-clause-outcome g c =
+    let gives = subst (λ (t : Text). OnTold (g.F.Folder.files c.args.folder.now) (λ files. LoadGives files c.as_str.result.now 16777216 (g.F.Folder.faults c.args.folder.now) (g.F.Folder.faults c.load.new.self) (load.Bytes t))) (sym c.as_slice.ensures) c.in-Bytes.ensures.gives in
+    loaded_and_stored c.args.project.now c.args.goals.now c.args.limit _ _ _ _ _ _ _ c.solve_and_store.result _ _ _ (c.as_str.ensures.value ∙ c.in-Ok.ensures) (c.as_str-in-Bytes.ensures.value ∙ c.in-Ok-file_name.ensures) c.in-Bytes.ensures.files gives c.solve_and_store.ensures.outcome
