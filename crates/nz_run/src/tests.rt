@@ -496,16 +496,17 @@ fn sums_of_a_hundred(alloc: Global) -> Result<String, Fail> {
     Ok(text)
 }
 
-fn unit_vectors(alloc: Global, width: u32) -> Result<String, Fail> {
+// The 64 unit vectors of 64 entries, the last one first.
+fn unit_vectors(alloc: Global) -> Result<String, Fail> {
     let mut text = String::from_str(
         alloc,
         "amb_space 64\nhomogeneous\n\n64 Hilbert basis elements:\n",
     )?;
-    for number in 0..width * width {
-        let column = number % width;
-        let is_one = number / width + column + 1 == width;
+    for number in 0..4096u32 {
+        let column = number % 64;
+        let is_one = number / 64 + column == 63;
         text.push_str(if is_one { "1" } else { "0" })?;
-        text.push_str(if column + 1 == width { "\n" } else { " " })?;
+        text.push_str(if column == 63 { "\n" } else { " " })?;
     }
     Ok(text)
 }
@@ -513,7 +514,7 @@ fn unit_vectors(alloc: Global, width: u32) -> Result<String, Fail> {
 #[test]
 fn long_lists(rt: HostRuntime) -> Result<(), Fail> {
     let sums = sums_of_a_hundred(rt.alloc())?;
-    let units = unit_vectors(rt.alloc(), 64)?;
+    let units = unit_vectors(rt.alloc())?;
     for (input, expected) in [
         (
             b"amb_space 3\ncongruences 1\n1 1 1 100\n".as_slice(),
