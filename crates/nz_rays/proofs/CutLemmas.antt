@@ -29,7 +29,7 @@ use Rattle.nz_rays.specs.declared.crossings.Crossing.{Crossing}
 use Rattle.nz_rays.specs.Descriptions.{IsDescription, IsDouble, VanishesAt, AreZeros}
 use Rattle.nz_rays.specs.Crossings.{AreCommon, HasNoThird, IsCovered, AreOnBothSides, IsCrossing, IsBefore, HasCrossing}
 use Rattle.nz_rays.specs.Cuts.{IsKeptAt, crossing_sum, IsSum, AreKeptZeros, AreSumZeros, IsCutByValues}
-use Rattle.nz_rays.proofs.PlaceLemmas.{listed_push, listed_same, below_next, zip_at, zip_length, Beside, zip_beside}
+use Rattle.nz_rays.proofs.PlaceLemmas.{same_or_not, listed_push, listed_same, below_next, zip_at, zip_length, Beside, zip_beside}
 
 -- ---- lists
 pub each_from_at : {A : Type 0} (P : A → Type 0) (d : A) (xs : List A) → ((i : ℕ) → i < length xs → P (get_or xs i d)) → Each P xs
@@ -42,12 +42,6 @@ differ_at d (x ∷ xs) p zero zero li lj n = absurd (n refl)
 differ_at d (x ∷ xs) p zero (suc j) li lj n = each_at (λ y. x ≢ y) d xs j p.0 (omega arith)
 differ_at d (x ∷ xs) p (suc i) zero li lj n = λ e. each_at (λ y. x ≢ y) d xs i p.0 (omega arith) (sym e)
 differ_at d (x ∷ xs) p (suc i) (suc j) li lj n = differ_at d xs p.1 i j (omega arith) (omega arith) (λ e. n (ap suc e))
-
-pub same_or_not : (i j : ℕ) → (i ≡ j) ⊎ (i ≢ j)
-same_or_not zero zero = inl refl
-same_or_not zero (suc j) = inr (λ e. let f : ⊥ = omega arith in f)
-same_or_not (suc i) zero = inr (λ e. let f : ⊥ = omega arith in f)
-same_or_not (suc i) (suc j) = ⊎_elim (λ e. inl (ap suc e)) (λ n. inr (λ e. n (omega arith))) (same_or_not i j)
 
 pub contains_map : {A B : Type 0} (f : A → B) (xs : List A) (x : A) → Contains xs x → Contains (map f xs) (f x)
 contains_map f [] x c = absurd (let l = c.1 in let e : ⊥ = omega arith in e)

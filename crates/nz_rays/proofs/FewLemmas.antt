@@ -9,7 +9,7 @@ use Rattle.nz_spec.specs.Order.{Pairwise, IsListOf}
 use Rattle.nz_spec.specs.Covers.{vectors_at}
 use Rattle.nz_spec.proofs.VectorLaws.{dot-scaled, dot-IsZero, int_is_zero, IsZero-zero_vector}
 use Rattle.nz_spec.proofs.SumLaws.{length-zero_vector}
-use Rattle.nz_spec.proofs.ListLaws.{Each-contains, contains_here, contains_there, contains_cases, contains_none, different_within}
+use Rattle.nz_spec.proofs.ListLaws.{Each-contains, contains_here, contains_there, different_within}
 use Rattle.nz_linear.specs.Cones.{Satisfies, meet}
 use Rattle.nz_linear.specs.Coordinates.{in_coordinates}
 use Rattle.nz_linear.specs.DualPairs.{Pair, IsApart, IsDual}
@@ -31,8 +31,8 @@ use Rattle.nz_pointed.proofs.ListLemmas.{each_at}
 use Rattle.nz_rays.specs.declared.crossings.Crossing.{Crossing}
 use Rattle.nz_rays.specs.Descriptions.{IsDouble, AreZeros}
 use Rattle.nz_rays.specs.Crossings.{IsThird, HasThird, FewAreCovered}
-use Rattle.nz_rays.proofs.PlaceLemmas.{zip_at}
-use Rattle.nz_rays.proofs.CutLemmas.{each_from_at, same_or_not, contains_map, crossed, adjacent_of, at_place}
+use Rattle.nz_rays.proofs.PlaceLemmas.{zip_at, same_or_not, contains_or_not}
+use Rattle.nz_rays.proofs.CutLemmas.{each_from_at, contains_map, crossed, adjacent_of, at_place}
 
 -- ---- an extreme vector needs rows
 -- the forms of a dual pair are all different
@@ -114,11 +114,6 @@ extreme_needs w rows fs m lr lf pt lm sm nm zeros e few = ⊎_elim by_row (λ z.
         e (omega (arith, ints, p, n)) c.zero.0)) (IsZero-zero_vector w))
 
 -- ---- a third ray is there or none
-contains_or_not : (xs : List ℕ) (x : ℕ) → Contains xs x ⊎ ¬ Contains xs x
-contains_or_not [] x = inr (λ c. contains_none x c)
-contains_or_not (y ∷ xs) x = ⊎_elim (λ e. inl (subst (Contains (y ∷ xs)) e (contains_here y xs)))
-    (λ n. ⊎_elim (λ c. inl (contains_there y x xs c)) (λ m. inr (λ c. ⊎_elim n m (contains_cases y xs x c))) (contains_or_not xs x)) (same_or_not y x)
-
 all_or_not : (xs ys : List ℕ) → Each (Contains xs) ys ⊎ ¬ Each (Contains xs) ys
 all_or_not xs [] = inl tt
 all_or_not xs (y ∷ ys) = ⊎_elim (λ c. ⊎_elim (λ e. inl (c, e)) (λ n. inr (λ e. n e.1)) (all_or_not xs ys)) (λ n. inr (λ e. n e.0)) (contains_or_not xs y)

@@ -4,3 +4,4 @@ pub mod StartLemmas
 pub mod CutLemmas
 pub mod RangeLemmas
 pub mod FewLemmas
+pub mod WordLemmas

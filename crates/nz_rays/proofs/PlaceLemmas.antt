@@ -6,7 +6,7 @@ use Rattle.std.proofs.lemmas.List.Elements.{Contains-append_left, Contains-push,
 use Rattle.std.specs.Prelude.{IsTrue}
 use Rattle.std.proofs.lemmas.Int.{by_lt_z}
 use Rattle.nz_spec.specs.Order.{Pairwise, IsListOf}
-use Rattle.nz_spec.proofs.ListLaws.{Each-contains, different_within}
+use Rattle.nz_spec.proofs.ListLaws.{Each-contains, contains_here, contains_there, contains_cases, contains_none}
 use Rattle.nz_linear.proofs.Lists.{each_map, each_append}
 use Rattle.nz_pointed.proofs.ListLemmas.{pairwise_push, zip_more, each_at}
 use Rattle.nz_rays.specs.Cuts.{Appends, IsKeptAt}
@@ -53,10 +53,6 @@ increasing_take : (xs : List ℕ) → Pairwise ◌<◌ xs → (i : ℕ) → i < 
 increasing_take [] p i l = absurd (omega arith)
 increasing_take (x ∷ xs) p zero l = tt
 increasing_take (x ∷ xs) p (suc i) l = (each_at (λ y. x < y) 0 xs i p.0 (omega arith), increasing_take xs p.1 i (omega arith))
-
-pub increasing_differ : (xs : List ℕ) → Pairwise ◌<◌ xs → Pairwise ◌≢◌ xs
-increasing_differ [] p = tt
-increasing_differ (x ∷ xs) p = (each_map (λ y. x < y) (λ y. x ≢ y) xs (λ y l e. omega arith) p.0, increasing_differ xs p.1)
 
 -- what is where a search by halves has come to
 pub record IsSought (xs : List ℕ) (x low high : ℕ) : Type 0 where
@@ -134,20 +130,43 @@ common_skip xs ys both i x l e c n =
 pub common_all : (xs ys both : List ℕ) (i : ℕ) → length xs ≤ i → IsListOf ◌<◌ (IsInBoth (take i xs) ys) both → IsListOf ◌<◌ (IsInBoth xs ys) both
 common_all xs ys both i l c = subst (λ (us : List ℕ). IsListOf ◌<◌ (IsInBoth us ys) both) (take_all i xs l) c
 
--- ---- one set within another
-pub within_more : (xs ys : List ℕ) (i x : ℕ) → i < length xs → x ≡ get_or xs i 0 → Each (Contains ys) (take i xs) → Contains ys x → Each (Contains ys) (take (i + 1) xs)
-within_more xs ys i x l e h c =
-    let t : take (i + 1) xs ≡ take i xs ++ (x ∷ []) = take_more xs i 0 l ∙ ap (λ k. take i xs ++ (k ∷ [])) (sym e) in
-    subst (Each (Contains ys)) (sym t) (each_append (Contains ys) (take i xs) (x ∷ []) h (c, tt))
+pub same_or_not : (i j : ℕ) → (i ≡ j) ⊎ (i ≢ j)
+same_or_not i j = grind arith
 
-pub not_within : (xs ys : List ℕ) (i x : ℕ) → i < length xs → x ≡ get_or xs i 0 → ¬ Contains ys x → ¬ Each (Contains ys) xs
-not_within xs ys i x l e n h = n (subst (Contains ys) (sym e) (each_at (Contains ys) 0 xs i h l))
+pub contains_or_not : (xs : List ℕ) (x : ℕ) → Contains xs x ⊎ ¬ Contains xs x
+contains_or_not [] x = inr (λ c. contains_none x c)
+contains_or_not (y ∷ xs) x = ⊎_elim (λ e. inl (subst (Contains (y ∷ xs)) e (contains_here y xs)))
+    (λ n. ⊎_elim (λ c. inl (contains_there y x xs c)) (λ m. inr (λ c. ⊎_elim n m (contains_cases y xs x c))) (contains_or_not xs x)) (same_or_not y x)
 
-pub too_long : (xs ys : List ℕ) → Pairwise ◌<◌ xs → length ys < length xs → ¬ Each (Contains ys) xs
-too_long xs ys p l h = let k = different_within xs ys (increasing_differ xs p) h in let f : ⊥ = omega arith in f
+-- two sets have a list of what they have in common
+pub record HasCommon (xs ys : List ℕ) : Type 0 where
+  pub common : List ℕ
+  pub is_common : IsListOf ◌<◌ (IsInBoth xs ys) common
 
-pub within_all : (xs ys : List ℕ) (i : ℕ) → length xs ≤ i → Each (Contains ys) (take i xs) → Each (Contains ys) xs
-within_all xs ys i l h = subst (Each (Contains ys)) (take_all i xs l) h
+pub common_list : (xs ys : List ℕ) → Pairwise ◌<◌ xs → HasCommon xs ys
+common_list [] ys p = record { common = []; is_common = record { in_order = tt; only = tt; each = λ k b. absurd (contains_none k b.0) } }
+common_list (x ∷ xs) ys p =
+    let r = common_list xs ys p.1 in
+    let l = r.is_common in
+    let only : Each (IsInBoth (x ∷ xs) ys) r.common = each_map (IsInBoth xs ys) (IsInBoth (x ∷ xs) ys) r.common (λ k b. (contains_there x k xs b.0, b.1)) l.only in
+    ⊎_elim
+    (λ c. record {
+      common = x ∷ r.common;
+      is_common = record {
+        in_order = (each_map (IsInBoth xs ys) (λ k. x < k) r.common (λ k b. Each-contains (λ j. x < j) xs k p.0 b.0) l.only, l.in_order);
+        only = ((contains_here x xs, c), only);
+        each = λ k b. ⊎_elim (λ e. subst (Contains (x ∷ r.common)) e (contains_here x r.common)) (λ h. contains_there x k r.common (l.each k (h, b.1))) (contains_cases x xs k b.0);
+      };
+    })
+    (λ n. record {
+      common = r.common;
+      is_common = record {
+        in_order = l.in_order;
+        only = only;
+        each = λ k b. ⊎_elim (λ e. absurd (n (subst (Contains ys) (sym e) b.1))) (λ h. l.each k (h, b.1)) (contains_cases x xs k b.0);
+      };
+    })
+    (contains_or_not ys x)
 
 -- ---- a copy
 pub copy_more : (xs copy more : List ℕ) (i x : ℕ) → i < length xs → x ≡ get_or xs i 0 → copy ≡ take i xs → more ≡ copy ++ (x ∷ []) → more ≡ take (i + 1) xs

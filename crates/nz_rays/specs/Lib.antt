@@ -2,3 +2,4 @@ pub mod Crossings
 pub mod Cuts
 pub mod Descriptions
 pub mod Measures
+pub mod Words

@@ -1,11 +1,13 @@
 // The pairs of adjacent rays on both sides of a new row. Two rays are adjacent where no third one
-// is 0 at all the rows at which both are; this is read off their zero sets.
+// is 0 at all the rows at which both are; this is read off the words of their zero sets.
 ghost use Rattle.std.specs.Prelude.{◌≡◌, pos, ℕ, List, ◌+◌, ◌<◌, ◌<ℤ◌, [], length, get_or, IfOk, IsTrue, ◌↔◌, MatchBool, MatchOption};
 ghost use Rattle.std.specs.List.{AllByRecursion as Each};
 ghost use Rattle.nz_spec.specs.Order.{Pairwise};
-ghost use Rattle.nz_rays.specs.Crossings.{AreCommon, IsThird, HasNoThird, HasThird, IsCovered, AreOnBothSides, FewAreCovered, AreCrossingsBefore};
+ghost use Rattle.nz_rays.specs.Crossings.{AreCommon, HasNoThird, HasThird, IsCovered, AreOnBothSides, FewAreCovered, AreCrossingsBefore};
+ghost use Rattle.nz_rays.specs.Words.{AreColumns, IsPlaceIn, TellsThird};
 
-use crate::zero_sets::{common, is_within};
+use crate::words::{Column, covers, have_few};
+use crate::zero_sets::common;
 use nz_vec::{NoMemory, PlaceLists, Places, Row, Scalar};
 use std::alloc::Global;
 
@@ -31,30 +33,31 @@ pub(crate) fn is_negative<T: Scalar>(value: T) -> bool
     value < T::of_i64(0)
 }
 
-// Whether the set at this place, of neither ray of the pair, has all the common places.
-fn is_third(zeros: &PlaceLists, common: &Places, above: usize, below: usize, place: usize) -> bool
-    requires within { place < length zeros.now }
-    requires sets { Each (Pairwise ◌<◌) zeros.now }
-    requires set { Pairwise ◌<◌ common.now }
-    ensures { MatchBool result (IsThird zeros.now common.now above below place) (¬ IsThird zeros.now common.now above below place) }
+// Whether the set at this place, of neither ray of the pair, has all their common places.
+fn is_third(columns: &[Column], above: usize, below: usize, place: usize) -> bool
+    requires above { IsPlaceIn above columns.now }
+    requires below { IsPlaceIn below columns.now }
+    requires place { IsPlaceIn place columns.now }
+    ensures { TellsThird columns.now above below place result }
 {
     if place == above {
         false
     } else if place == below {
         false
     } else {
-        is_within(common, zeros.at(place))
+        covers(columns, above, below, place)
     }
 }
 
-// Whether no other ray has all the common places.
-fn are_adjacent(zeros: &PlaceLists, common: &Places, above: usize, below: usize) -> bool
-    requires sets { Each (Pairwise ◌<◌) zeros.now }
-    requires set { Pairwise ◌<◌ common.now }
-    ensures { MatchBool result (HasNoThird zeros.now common.now above below) (HasThird zeros.now common.now above below) }
+// Whether no other ray has all the places that two have in common.
+fn are_adjacent(zeros: &PlaceLists, columns: &[Column], above: usize, below: usize) -> bool
+    requires above { above < length zeros.now }
+    requires below { below < length zeros.now }
+    requires columns { AreColumns zeros.now columns.now }
+    ensures { (common : List ℕ) → AreCommon zeros.now above below common → MatchBool result (HasNoThird zeros.now common above below) (HasThird zeros.now common above below) }
 {
     for place in 0..zeros.len() {
-        if is_third(zeros, common, above, below, place) {
+        if is_third(columns, above, below, place) {
             return false;
         }
     }
@@ -66,6 +69,7 @@ fn are_adjacent(zeros: &PlaceLists, common: &Places, above: usize, below: usize)
 fn crossing_of(
     alloc: Global,
     zeros: &PlaceLists,
+    columns: &[Column],
     needed: usize,
     above: usize,
     below: usize,
@@ -73,24 +77,23 @@ fn crossing_of(
     requires above { above < length zeros.now }
     requires below { below < length zeros.now }
     requires sets { Each (Pairwise ◌<◌) zeros.now }
+    requires columns { AreColumns zeros.now columns.now }
     requires few { (common : List ℕ) → AreCommon zeros.now above below common → length common < needed → IsCovered zeros.now above below }
     ensures { IfOk result (λ o. MatchOption o (IsCovered zeros.now above below) (λ c. (c.above ≡ above) × (c.below ≡ below) × AreCommon zeros.now above below c.zeros × HasNoThird zeros.now c.zeros above below)) }
 {
-    let zeros_of_both = match common(alloc, zeros.at(above), zeros.at(below)) {
-        Ok(places) => places,
-        Err(refusal) => return Err(refusal),
-    };
-    if zeros_of_both.len() < needed {
+    if have_few(columns, above, below, needed) {
         return Ok(None);
     }
-    if are_adjacent(zeros, &zeros_of_both, above, below) {
-        Ok(Some(Crossing {
+    if !are_adjacent(zeros, columns, above, below) {
+        return Ok(None);
+    }
+    match common(alloc, zeros.at(above), zeros.at(below)) {
+        Ok(zeros) => Ok(Some(Crossing {
             above,
             below,
-            zeros: zeros_of_both,
-        }))
-    } else {
-        Ok(None)
+            zeros,
+        })),
+        Err(refusal) => Err(refusal),
     }
 }
 
@@ -99,6 +102,7 @@ fn with_crossings_of<T: Scalar>(
     alloc: Global,
     values: &Row<T>,
     zeros: &PlaceLists,
+    columns: &[Column],
     needed: usize,
     above: usize,
     mut list: Vec<Crossing>,
@@ -107,13 +111,14 @@ fn with_crossings_of<T: Scalar>(
     requires positive { pos 0 <ℤ get_or values.now above (pos 0) }
     requires count { length zeros.now ≡ length values.now }
     requires sets { Each (Pairwise ◌<◌) zeros.now }
+    requires columns { AreColumns zeros.now columns.now }
     requires few { FewAreCovered values.now zeros.now needed }
     requires before { AreCrossingsBefore values.now zeros.now above 0 list.items }
     ensures { IfOk result (λ v. AreCrossingsBefore values.now zeros.now (above + 1) 0 v.items) }
 {
     for below in 0..values.len() {
         if is_negative(values.at(below)) {
-            let found = match crossing_of(alloc, zeros, needed, above, below) {
+            let found = match crossing_of(alloc, zeros, columns, needed, above, below) {
                 Ok(found) => found,
                 Err(refusal) => return Err(refusal),
             };
@@ -134,17 +139,19 @@ pub(crate) fn crossings<T: Scalar>(
     alloc: Global,
     values: &Row<T>,
     zeros: &PlaceLists,
+    columns: &[Column],
     needed: usize,
 ) -> Result<Vec<Crossing>, NoMemory>
     requires count { length zeros.now ≡ length values.now }
     requires sets { Each (Pairwise ◌<◌) zeros.now }
+    requires columns { AreColumns zeros.now columns.now }
     requires few { FewAreCovered values.now zeros.now needed }
     ensures { IfOk result (λ v. AreCrossingsBefore values.now zeros.now (length values.now) 0 v.items) }
 {
     let mut list = Vec::new(alloc);
     for above in 0..values.len() {
         if is_positive(values.at(above)) {
-            list = match with_crossings_of(alloc, values, zeros, needed, above, list) {
+            list = match with_crossings_of(alloc, values, zeros, columns, needed, above, list) {
                 Ok(list) => list,
                 Err(refusal) => return Err(refusal),
             };

@@ -10,6 +10,7 @@ ghost use Rattle.nz_rays.specs.Cuts.{IsKeptAt, IsSum, AreKeptZeros, AreSumZeros,
 ghost use Rattle.nz_rays.specs.Measures.{HasLargeRay, IsCrossingWithin};
 
 use crate::crossings::{Crossing, crossings, is_negative};
+use crate::words::columns_of;
 use crate::zero_sets::{copied, extended};
 use nz_vec::{NoMemory, Num, PlaceLists, Places, Row, Rows, Scalar};
 use std::alloc::Global;
@@ -219,6 +220,7 @@ pub(crate) fn cut<T: Scalar>(
     requires widths { Each (HasWidth (length form.now)) rays.now }
     requires count { length zeros.now ≡ length rays.now }
     requires sets { Each (Pairwise ◌<◌) zeros.now }
+    requires places { Each (Each (λ k. k < last)) zeros.now }
     requires few { FewAreCovered (in_coordinates rays.now form.now) zeros.now (length form.now - 2) }
     ensures { MatchResult result (λ c. IsCutByValues (in_coordinates rays.now form.now) last rays.now zeros.now c.rays c.zeros) (λ e. e ≡ Num.Range → HasLargeRay T.HALF form.now rays.now) }
 {
@@ -231,7 +233,11 @@ pub(crate) fn cut<T: Scalar>(
         Err(refusal) => return Err(Num::from(refusal)),
     };
     let needed = form.len().saturating_sub(2);
-    let crossings = match crossings(alloc, &values, zeros, needed) {
+    let columns = match columns_of(alloc, zeros, last) {
+        Ok(columns) => columns,
+        Err(refusal) => return Err(Num::from(refusal)),
+    };
+    let crossings = match crossings(alloc, &values, zeros, columns.as_slice(), needed) {
         Ok(crossings) => crossings,
         Err(refusal) => return Err(Num::from(refusal)),
     };

@@ -8,6 +8,7 @@
 mod crossings;
 mod cutting;
 mod double;
+mod words;
 mod zero_sets;
 
 pub use double::Double;

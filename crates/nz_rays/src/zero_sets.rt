@@ -1,6 +1,5 @@
 // Sets of places, as increasing lists.
 ghost use Rattle.std.specs.Prelude.{◌≡◌, ◌≢◌, ℕ, ◌<◌, ◌++◌, ◌∷◌, [], IfOk, MatchBool, Contains};
-ghost use Rattle.std.specs.List.{AllByRecursion as Each};
 ghost use Rattle.nz_spec.specs.Order.{Pairwise, IsListOf};
 
 use nz_vec::{NoMemory, Places};
@@ -45,23 +44,6 @@ pub(crate) fn common(alloc: Global, first: &Places, second: &Places) -> Result<P
         }
     }
     Ok(both)
-}
-
-/// Whether each place of the set is in the other. A set with more places than the other is not.
-pub(crate) fn is_within(set: &Places, other: &Places) -> bool
-    requires set { Pairwise ◌<◌ set.now }
-    requires other { Pairwise ◌<◌ other.now }
-    ensures { MatchBool result (Each (Contains other.now) set.now) (¬ Each (Contains other.now) set.now) }
-{
-    if other.len() < set.len() {
-        return false;
-    }
-    for index in 0..set.len() {
-        if !has(other, set.at(index)) {
-            return false;
-        }
-    }
-    true
 }
 
 /// An equal set.

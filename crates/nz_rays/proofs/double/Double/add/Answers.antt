@@ -1,7 +1,8 @@
-use Rattle.std.proofs.Common.{◌<◌, ◌-◌, ◌∙◌, sym, ap}
+use Rattle.std.proofs.Common.{◌<◌, ◌-◌, ◌∙◌, sym, ap, arith}
+use Rattle.std.specs.List.{AllByRecursion as Each}
 use Rattle.nz_spec.specs.Order.{Pairwise}
-use Rattle.nz_linear.proofs.Lists.{zip_to_right}
-use Rattle.nz_rays.specs.Descriptions.{RowsAndRays, AreZeros}
+use Rattle.nz_linear.proofs.Lists.{each_map, zip_to_right}
+use Rattle.nz_rays.specs.Descriptions.{RowsAndRays, VanishesAt, AreZeros}
 use Rattle.nz_rays.proofs.PlaceLemmas.{zip_length}
 use Rattle.nz_rays.proofs.StartLemmas.{lists_rays}
 use Rattle.nz_rays.proofs.CutLemmas.{add_double}
@@ -13,6 +14,10 @@ cut-requires-clause-count g c = sym (zip_length (AreZeros c.self.inside.rows) c.
 
 pub cut-requires-clause-sets : goal.cut-requires-clause-sets
 cut-requires-clause-sets g c = zip_to_right (AreZeros c.self.inside.rows) (Pairwise ◌<◌) c.self.inside.rays c.self.inside.zeros (λ x z h. h.in_order) c.self.invariant.exact
+
+pub cut-requires-clause-places : goal.cut-requires-clause-places
+cut-requires-clause-places g c = zip_to_right (AreZeros c.self.inside.rows) (Each (λ k. k < c.len.result)) c.self.inside.rays c.self.inside.zeros
+    (λ x z h. each_map (VanishesAt c.self.inside.rows x) (λ k. k < c.len.result) z (λ k v. let w = v.within in omega (arith, w, c.len.ensures)) h.only) c.self.invariant.exact
 
 pub invariant_of-self : goal.invariant_of-self
 invariant_of-self g c =

@@ -1,0 +1,10 @@
+use Rattle.std.proofs.Common.{◌<◌, [], length, get_or, ◌∙◌, arith}
+use Rattle.std.proofs.lemmas.List.{get_or_default}
+use Rattle.nz_pointed.proofs.ListLemmas.{zip_more}
+use Rattle.nz_rays.specs.Words.{IsWordOf}
+use Rattle.nz_rays.proofs.words.column_of.Goals as goal
+
+pub loop-place-preserved : goal.loop-place-preserved
+loop-place-preserved c =
+    let within : c.loop-place.place < length c.args.sets.now = omega (arith, c.loop-place-test.true, c.len-place-end.ensures) in
+    zip_more (λ s w. IsWordOf s c.args.from w) c.args.sets.now c.loop-place.words.items _ c.loop-place.place c.at.result.now c.word_of.result within (c.at.ensures ∙ get_or_default c.args.sets.now c.loop-place.place [] c.at.result.now within) c.loop-place.invariant c.word_of.ensures c.in-Ok.ensures.items
