@@ -92,6 +92,15 @@ crossings_pass v z a list n c = record {
   each = λ i j p s. ⊎_elim (λ q. c.each i j q s) (λ e. absurd (n (subst (λ (k : ℕ). pos 0 <ℤ get_or v k (pos 0)) e s.over))) (last_row i j a p);
 }
 
+-- the ray has no crossing
+pub crossings_far : (v : Vector) (z : List (List ℕ)) (a : ℕ) (list : List Crossing) → ((b : ℕ) → AreOnBothSides v a b → IsCovered z a b) → AreCrossingsBefore v z a 0 list → AreCrossingsBefore v z (a + 1) 0 list
+crossings_far v z a list n c = record {
+  in_order = c.in_order;
+  only = c.only;
+  before = each_map (λ (x : Crossing). IsPairBefore x.above x.below a 0) (λ (x : Crossing). IsPairBefore x.above x.below (a + 1) 0) list (λ x p. next_row x.above x.below a 0 p) c.before;
+  each = λ i j p s. ⊎_elim (λ q. c.each i j q s) (λ e. inr (subst (λ (k : ℕ). IsCovered z k j) (sym e) (n j (subst (λ (k : ℕ). AreOnBothSides v k j) e s)))) (last_row i j a p);
+}
+
 pub crossings_all : (v : Vector) (z : List (List ℕ)) (a n : ℕ) (list : List Crossing) → a ≡ n → AreCrossingsBefore v z a 0 list → AreCrossingsBefore v z n 0 list
 crossings_all v z a n list e c = subst (λ (k : ℕ). AreCrossingsBefore v z k 0 list) e c
 

@@ -6,7 +6,7 @@ use Rattle.std.proofs.lemmas.List.Elements.{Contains-append_left, Contains-push,
 use Rattle.std.specs.Prelude.{IsTrue}
 use Rattle.std.proofs.lemmas.Int.{by_lt_z}
 use Rattle.nz_spec.specs.Order.{Pairwise, IsListOf}
-use Rattle.nz_spec.proofs.ListLaws.{Each-contains, contains_here, contains_there, contains_cases, contains_none}
+use Rattle.nz_spec.proofs.ListLaws.{Each-contains, different_within, contains_here, contains_there, contains_cases, contains_none}
 use Rattle.nz_linear.proofs.Lists.{each_map, each_append}
 use Rattle.nz_pointed.proofs.ListLemmas.{pairwise_push, zip_more, each_at}
 use Rattle.nz_rays.specs.Cuts.{Appends, IsKeptAt}
@@ -53,6 +53,10 @@ increasing_take : (xs : List ℕ) → Pairwise ◌<◌ xs → (i : ℕ) → i < 
 increasing_take [] p i l = absurd (omega arith)
 increasing_take (x ∷ xs) p zero l = tt
 increasing_take (x ∷ xs) p (suc i) l = (each_at (λ y. x < y) 0 xs i p.0 (omega arith), increasing_take xs p.1 i (omega arith))
+
+pub increasing_differ : (xs : List ℕ) → Pairwise ◌<◌ xs → Pairwise ◌≢◌ xs
+increasing_differ [] p = tt
+increasing_differ (x ∷ xs) p = (each_map (λ y. x < y) (λ y. x ≢ y) xs (λ y l e. omega arith) p.0, increasing_differ xs p.1)
 
 -- what is where a search by halves has come to
 pub record IsSought (xs : List ℕ) (x low high : ℕ) : Type 0 where
@@ -167,6 +171,17 @@ common_list (x ∷ xs) ys p =
       };
     })
     (contains_or_not ys x)
+
+-- ---- what holds at each place so far
+pub each_more : (P : ℕ → Type 0) (xs : List ℕ) (i x : ℕ) → i < length xs → x ≡ get_or xs i 0 → Each P (take i xs) → P x → Each P (take (i + 1) xs)
+each_more P xs i x l e h p = subst (Each P) (sym (take_more xs i 0 l ∙ ap (λ k. take i xs ++ (k ∷ [])) (sym e))) (each_append P (take i xs) (x ∷ []) h (p, tt))
+
+pub each_all : (P : ℕ → Type 0) (xs : List ℕ) (i : ℕ) → length xs ≤ i → Each P (take i xs) → Each P xs
+each_all P xs i l h = subst (Each P) (take_all i xs l) h
+
+-- a set within another has no more places
+pub fewer_within : (xs ys : List ℕ) → Pairwise ◌<◌ xs → Each (Contains ys) xs → length xs ≤ length ys
+fewer_within xs ys p h = different_within xs ys (increasing_differ xs p) h
 
 -- ---- a copy
 pub copy_more : (xs copy more : List ℕ) (i x : ℕ) → i < length xs → x ≡ get_or xs i 0 → copy ≡ take i xs → more ≡ copy ++ (x ∷ []) → more ≡ take (i + 1) xs

@@ -9,12 +9,13 @@ use Rattle.std.proofs.lemmas.Nat.Bits.{bit_at_lowest, bit_at-suc, bit_at-zero, b
 use Rattle.std.proofs.lemmas.List.{take_more, take_all, get_or_default, get_or_append_left, get_or_push, length_push}
 use Rattle.std.proofs.lemmas.List.Elements.{Contains-append_left, Contains-push, Contains-push_cases}
 use Rattle.nz_spec.specs.Order.{Pairwise, IsListOf}
-use Rattle.nz_spec.proofs.ListLaws.{Each-contains}
+use Rattle.nz_spec.proofs.ListLaws.{Each-contains, Each-from_contains}
 use Rattle.nz_pointed.proofs.ListLemmas.{each_at}
-use Rattle.nz_linear.proofs.Lists.{each_map, each_map2}
-use Rattle.nz_rays.specs.Words.{HasBit, IsWordOf, IsWordWith, IsColumn, AreColumnsOf, AreColumns, IsPlaceIn, HaveFew, TellsCovered}
-use Rattle.nz_rays.specs.Crossings.{AreCommon}
-use Rattle.nz_rays.proofs.PlaceLemmas.{below_next, same_or_not, zip_at, zip_length, IsInBoth}
+use Rattle.nz_linear.proofs.Lists.{each_map, each_map2, each_append}
+use Rattle.nz_rays.specs.Words.{HasBit, IsWordOf, IsWordWith, IsColumn, AreColumnsOf, AreColumns, IsPlaceIn, AreNear, HaveFew, TellsCovered}
+use Rattle.nz_rays.specs.Crossings.{AreCommon, HasNoThird, IsThird, IsCovered, AreOnBothSides, FewAreCovered}
+use Rattle.nz_spec.specs.Vectors.{Vector}
+use Rattle.nz_rays.proofs.PlaceLemmas.{below_next, same_or_not, zip_at, zip_length, IsInBoth, common_list, fewer_within}
 use Rattle.nz_rays.proofs.CutLemmas.{each_from_at}
 
 -- ---- a word with one place
@@ -238,6 +239,57 @@ pub uncovered : (columns : List (List ℕ)) (first second place n x y z : ℕ) �
     → bit_and (bit_and x y) z ≢ bit_and x y → TellsCovered columns first second place false
 uncovered columns first second place n x y z l ex ey ez e = not_covered columns first second place n l (rw (ex, ey, ez) at e)
 
+-- ---- columns and places
 -- each column has a word for each set
+pub columns_wide : (sets columns : List (List ℕ)) → AreColumns sets columns → Each (λ c. length c ≡ length sets) columns
+columns_wide sets columns c = each_from_at (λ w. length w ≡ length sets) [] columns (λ j b. sym (zip_length (λ s w. IsWordOf s (64 * j) w) sets (get_or columns j []) (c.each j b)))
+
+pub place_in : (columns : List (List ℕ)) (bound place : ℕ) → Each (λ c. length c ≡ bound) columns → place < bound → IsPlaceIn place columns
+place_in columns bound place e l = each_map (λ c. length c ≡ bound) (λ c. place < length c) columns (λ c n. omega arith) e
+
 pub columns_count : (sets columns : List (List ℕ)) (place : ℕ) → AreColumns sets columns → place < length sets → IsPlaceIn place columns
-columns_count sets columns place c l = each_from_at (λ w. place < length w) [] columns (λ j b. let e = zip_length (λ s w. IsWordOf s (64 * j) w) sets (get_or columns j []) (c.each j b) in omega (arith, e, l))
+columns_count sets columns place c l = place_in columns (length sets) place (columns_wide sets columns c) l
+
+pub places_in : (sets columns : List (List ℕ)) (places : List ℕ) → AreColumns sets columns → Each (λ k. k < length sets) places → Each (λ k. IsPlaceIn k columns) places
+places_in sets columns places c e = each_map (λ k. k < length sets) (λ k. IsPlaceIn k columns) places (λ k l. columns_count sets columns k c l) e
+
+-- ---- near places
+pub near_none : (columns : List (List ℕ)) (first needed : ℕ) (near : List ℕ) → near ≡ [] → AreNear columns 0 first needed near
+near_none columns first needed near e = subst (AreNear columns 0 first needed) (sym e) (record { within = tt; each = λ k l. absurd (let f : ⊥ = omega arith in f) })
+
+near_within : (near : List ℕ) (n : ℕ) → Each (λ k. k < n) near → Each (λ k. k < n + 1) near
+near_within near n e = each_map (λ k. k < n) (λ k. k < n + 1) near (λ k l. omega arith) e
+
+pub near_push : (columns : List (List ℕ)) (n first needed : ℕ) (near more : List ℕ) → AreNear columns n first needed near → more ≡ near ++ (n ∷ []) → AreNear columns (n + 1) first needed more
+near_push columns n first needed near more h e = subst (AreNear columns (n + 1) first needed) (sym e) (record {
+  within = each_append (λ k. k < n + 1) near (n ∷ []) (near_within near n h.within) (omega arith, tt);
+  each = λ k l. ⊎_elim (λ b. ⊎_elim (λ c. inl (Contains-append_left near (n ∷ []) k c)) (λ f. inr f) (h.each k b)) (λ s. inl (subst (Contains (near ++ (n ∷ []))) (sym s) (Contains-push near n))) (below_next k n l);
+})
+
+pub near_skip : (columns : List (List ℕ)) (n first needed : ℕ) (near : List ℕ) → AreNear columns n first needed near → HaveFew columns first n needed → AreNear columns (n + 1) first needed near
+near_skip columns n first needed near h few = record {
+  within = near_within near n h.within;
+  each = λ k l. ⊎_elim (λ b. h.each k b) (λ s. inr (subst (λ (j : ℕ). HaveFew columns first j needed) (sym s) few)) (below_next k n l);
+}
+
+-- a third ray has as many places in common with the ray above as the two have, so it is near
+pub no_third : (zeros columns : List (List ℕ)) (near common : List ℕ) (above below needed : ℕ) → AreColumns zeros columns → above < length zeros → Pairwise ◌<◌ (get_or zeros above []) → AreNear columns (length zeros) above needed near → AreCommon zeros above below common → needed ≤ length common
+    → Each (λ k. ¬ IsThird zeros common above below k) near → HasNoThird zeros common above below
+no_third zeros columns near common above below needed c la p n m enough none k lk third = ⊎_elim
+    (λ has. Each-contains (λ j. ¬ IsThird zeros common above below j) near k none has third)
+    (λ few.
+    let h = common_list (get_or zeros above []) (get_or zeros k []) p in
+    let less = few zeros c la lk h.common h.is_common in
+    let all : Each (Contains h.common) common = each_map2 (IsInBoth (get_or zeros above []) (get_or zeros below [])) (Contains (get_or zeros k [])) (Contains h.common) common (λ j b t. h.is_common.each j (b.0, t)) m.only third.covers in
+    let most = fewer_within common h.common m.in_order all in
+    let f : ⊥ = omega (arith, less, most, enough) in
+    f)
+    (n.each k lk)
+
+-- a pair on both sides that has few common places is covered
+pub few_is_covered : (values : Vector) (zeros columns : List (List ℕ)) (needed above below : ℕ) → FewAreCovered values zeros needed → AreColumns zeros columns → Each (Pairwise ◌<◌) zeros → length zeros ≡ length values → AreOnBothSides values above below → HaveFew columns above below needed → IsCovered zeros above below
+few_is_covered values zeros columns needed above below covered c p n s few =
+    let la : above < length zeros = (let w = s.above_within in omega arith) in
+    let lb : below < length zeros = (let w = s.below_within in omega arith) in
+    let h = common_list (get_or zeros above []) (get_or zeros below []) (each_at (Pairwise ◌<◌) [] zeros above p la) in
+    covered above below s h.common h.is_common (few zeros c la lb h.common h.is_common)

@@ -49,3 +49,13 @@ TellsCovered columns first second place answer = (sets : List (List ℕ)) → Ar
 abbrev pub TellsThird : List (List ℕ) → ℕ → ℕ → ℕ → Bool → Type 0
 TellsThird columns above below place answer = (sets : List (List ℕ)) → AreColumns sets columns → above < length sets → below < length sets → place < length sets → (common : List ℕ) → AreCommon sets above below common
     → MatchBool answer (IsThird sets common above below place) (¬ IsThird sets common above below place)
+
+-- the answer says whether none of the sets at the given places is a third one to the other two
+abbrev pub TellsThirdOf : List ℕ → List (List ℕ) → ℕ → ℕ → Bool → Type 0
+TellsThirdOf near columns above below answer = (sets : List (List ℕ)) → AreColumns sets columns → above < length sets → below < length sets → Each (λ k. k < length sets) near → (common : List ℕ) → AreCommon sets above below common
+    → MatchBool answer (Each (λ k. ¬ IsThird sets common above below k) near) (HasThird sets common above below)
+
+-- the places near the first: each other place below the bound has fewer places in common with it than needed
+pub record AreNear (columns : List (List ℕ)) (bound first needed : ℕ) (near : List ℕ) : Type 0 where
+  pub within : Each (λ k. k < bound) near
+  pub each : (k : ℕ) → k < bound → Contains near k ⊎ HaveFew columns first k needed

@@ -2,11 +2,11 @@
 // is 0 at all the rows at which both are; this is read off the words of their zero sets.
 ghost use Rattle.std.specs.Prelude.{◌≡◌, pos, ℕ, List, ◌+◌, ◌<◌, ◌<ℤ◌, [], length, get_or, IfOk, IsTrue, ◌↔◌, MatchBool, MatchOption};
 ghost use Rattle.std.specs.List.{AllByRecursion as Each};
-ghost use Rattle.nz_spec.specs.Order.{Pairwise};
-ghost use Rattle.nz_rays.specs.Crossings.{AreCommon, HasNoThird, HasThird, IsCovered, AreOnBothSides, FewAreCovered, AreCrossingsBefore};
-ghost use Rattle.nz_rays.specs.Words.{AreColumns, IsPlaceIn, TellsThird};
+ghost use Rattle.nz_spec.specs.Order.{Pairwise, IsListOf};
+ghost use Rattle.nz_rays.specs.Crossings.{AreCommon, HasNoThird, IsCovered, FewAreCovered, AreCrossingsBefore};
+ghost use Rattle.nz_rays.specs.Words.{AreColumns, IsPlaceIn, AreNear, TellsThird, TellsThirdOf};
 
-use crate::words::{Column, covers, have_few};
+use crate::words::{Column, are_far, covers, have_few, near_places};
 use crate::zero_sets::common;
 use nz_vec::{NoMemory, PlaceLists, Places, Row, Scalar};
 use std::alloc::Global;
@@ -33,6 +33,22 @@ pub(crate) fn is_negative<T: Scalar>(value: T) -> bool
     value < T::of_i64(0)
 }
 
+// The places at which the value is negative.
+fn negative_places<T: Scalar>(alloc: Global, values: &Row<T>) -> Result<Places, NoMemory>
+    ensures { IfOk result (IsListOf ◌<◌ (λ k. (k < length values.now) × (get_or values.now k (pos 0) <ℤ pos 0))) }
+{
+    let mut places = Places::new(alloc);
+    for place in 0..values.len() {
+        if is_negative(values.at(place)) {
+            match places.push(place) {
+                Ok(()) => {}
+                Err(refusal) => return Err(refusal),
+            }
+        }
+    }
+    Ok(places)
+}
+
 // Whether the set at this place, of neither ray of the pair, has all their common places.
 fn is_third(columns: &[Column], above: usize, below: usize, place: usize) -> bool
     requires above { IsPlaceIn above columns.now }
@@ -49,15 +65,15 @@ fn is_third(columns: &[Column], above: usize, below: usize, place: usize) -> boo
     }
 }
 
-// Whether no other ray has all the places that two have in common.
-fn are_adjacent(zeros: &PlaceLists, columns: &[Column], above: usize, below: usize) -> bool
-    requires above { above < length zeros.now }
-    requires below { below < length zeros.now }
-    requires columns { AreColumns zeros.now columns.now }
-    ensures { (common : List ℕ) → AreCommon zeros.now above below common → MatchBool result (HasNoThird zeros.now common above below) (HasThird zeros.now common above below) }
+// Whether no ray at these places has all the places that two have in common.
+fn are_adjacent(near: &Places, columns: &[Column], above: usize, below: usize) -> bool
+    requires above { IsPlaceIn above columns.now }
+    requires below { IsPlaceIn below columns.now }
+    requires near { Each (λ k. IsPlaceIn k columns.now) near.now }
+    ensures { TellsThirdOf near.now columns.now above below result }
 {
-    for place in 0..zeros.len() {
-        if is_third(columns, above, below, place) {
+    for index in 0..near.len() {
+        if is_third(columns, above, below, near.at(index)) {
             return false;
         }
     }
@@ -65,11 +81,12 @@ fn are_adjacent(zeros: &PlaceLists, columns: &[Column], above: usize, below: usi
 }
 
 // The crossing of two rays on both sides, if they are adjacent. Adjacent rays have as many common
-// places as needed, which is tried first.
+// places as needed, and so has a third ray with the ray above: it is near.
 fn crossing_of(
     alloc: Global,
     zeros: &PlaceLists,
     columns: &[Column],
+    near: &Places,
     needed: usize,
     above: usize,
     below: usize,
@@ -78,23 +95,28 @@ fn crossing_of(
     requires below { below < length zeros.now }
     requires sets { Each (Pairwise ◌<◌) zeros.now }
     requires columns { AreColumns zeros.now columns.now }
+    requires near { AreNear columns.now (length zeros.now) above needed near.now }
     requires few { (common : List ℕ) → AreCommon zeros.now above below common → length common < needed → IsCovered zeros.now above below }
     ensures { IfOk result (λ o. MatchOption o (IsCovered zeros.now above below) (λ c. (c.above ≡ above) × (c.below ≡ below) × AreCommon zeros.now above below c.zeros × HasNoThird zeros.now c.zeros above below)) }
 {
     if have_few(columns, above, below, needed) {
         return Ok(None);
     }
-    if !are_adjacent(zeros, columns, above, below) {
+    if !are_adjacent(near, columns, above, below) {
         return Ok(None);
     }
-    match common(alloc, zeros.at(above), zeros.at(below)) {
-        Ok(zeros) => Ok(Some(Crossing {
-            above,
-            below,
-            zeros,
-        })),
-        Err(refusal) => Err(refusal),
+    let zeros = match common(alloc, zeros.at(above), zeros.at(below)) {
+        Ok(zeros) => zeros,
+        Err(refusal) => return Err(refusal),
+    };
+    if zeros.len() < needed {
+        return Ok(None);
     }
+    Ok(Some(Crossing {
+        above,
+        below,
+        zeros,
+    }))
 }
 
 // Appends the crossings of the ray above at this place.
@@ -116,9 +138,13 @@ fn with_crossings_of<T: Scalar>(
     requires before { AreCrossingsBefore values.now zeros.now above 0 list.items }
     ensures { IfOk result (λ v. AreCrossingsBefore values.now zeros.now (above + 1) 0 v.items) }
 {
+    let near = match near_places(alloc, columns, zeros.len(), above, needed) {
+        Ok(near) => near,
+        Err(refusal) => return Err(refusal),
+    };
     for below in 0..values.len() {
         if is_negative(values.at(below)) {
-            let found = match crossing_of(alloc, zeros, columns, needed, above, below) {
+            let found = match crossing_of(alloc, zeros, columns, &near, needed, above, below) {
                 Ok(found) => found,
                 Err(refusal) => return Err(refusal),
             };
@@ -148,13 +174,19 @@ pub(crate) fn crossings<T: Scalar>(
     requires few { FewAreCovered values.now zeros.now needed }
     ensures { IfOk result (λ v. AreCrossingsBefore values.now zeros.now (length values.now) 0 v.items) }
 {
+    let below = match negative_places(alloc, values) {
+        Ok(places) => places,
+        Err(refusal) => return Err(refusal),
+    };
     let mut list = Vec::new(alloc);
     for above in 0..values.len() {
         if is_positive(values.at(above)) {
-            list = match with_crossings_of(alloc, values, zeros, columns, needed, above, list) {
-                Ok(list) => list,
-                Err(refusal) => return Err(refusal),
-            };
+            if !are_far(columns, above, &below, needed) {
+                list = match with_crossings_of(alloc, values, zeros, columns, needed, above, list) {
+                    Ok(list) => list,
+                    Err(refusal) => return Err(refusal),
+                };
+            }
         }
     }
     Ok(list)

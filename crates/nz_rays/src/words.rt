@@ -1,7 +1,7 @@
 // Sets of places as words of bits. Those of many sets stand in columns, one for each 64 places.
 ghost use Rattle.std.specs.Prelude.{◌≡◌, ℕ, ◌+◌, ◌*◌, ◌/◌, ◌<◌, List, length, IfOk, IsTrue};
 ghost use Rattle.std.specs.List.{AllByRecursion as Each};
-ghost use Rattle.nz_rays.specs.Words.{IsWordOf, IsWordWith, IsColumn, AreColumns, IsPlaceIn, HaveFew, TellsCovered};
+ghost use Rattle.nz_rays.specs.Words.{IsWordOf, IsWordWith, IsColumn, AreColumns, IsPlaceIn, AreNear, HaveFew, TellsCovered};
 
 use nz_vec::{NoMemory, PlaceLists, Places};
 use std::alloc::Global;
@@ -110,4 +110,42 @@ pub(crate) fn covers(columns: &[Column], first: usize, second: usize, place: usi
         }
     }
     true
+}
+
+/// Whether each of the sets at these places has fewer places in common with the first than needed.
+pub(crate) fn are_far(columns: &[Column], first: usize, places: &Places, needed: usize) -> bool
+    requires first { IsPlaceIn first columns.now }
+    requires places { Each (λ k. IsPlaceIn k columns.now) places.now }
+    ensures { IsTrue result → Each (λ k. HaveFew columns.now first k needed) places.now }
+{
+    for index in 0..places.len() {
+        if !have_few(columns, first, places.at(index), needed) {
+            return false;
+        }
+    }
+    true
+}
+
+/// The places below `bound` of the sets with as many places in common with the first as needed.
+pub(crate) fn near_places(
+    alloc: Global,
+    columns: &[Column],
+    bound: usize,
+    first: usize,
+    needed: usize,
+) -> Result<Places, NoMemory>
+    requires first { IsPlaceIn first columns.now }
+    requires bound { Each (λ c. length c ≡ bound) columns.now }
+    ensures { IfOk result (AreNear columns.now bound first needed) }
+{
+    let mut near = Places::new(alloc);
+    for place in 0..bound {
+        if !have_few(columns, first, place, needed) {
+            match near.push(place) {
+                Ok(()) => {}
+                Err(refusal) => return Err(refusal),
+            }
+        }
+    }
+    Ok(near)
 }

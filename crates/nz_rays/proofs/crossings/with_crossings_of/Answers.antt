@@ -1,16 +1,24 @@
-use Rattle.std.proofs.Common.{◌<◌, ◌<ℤ◌, pos, length, refl, subst, arith}
+use Rattle.std.proofs.Common.{◌≡◌, ℕ, ◌<◌, ◌<ℤ◌, pos, length, refl, sym, subst, arith}
+use Rattle.std.specs.List.{AllByRecursion as Each}
+use Rattle.nz_rays.proofs.WordLemmas.{columns_count, columns_wide}
 use Rattle.nz_rays.proofs.PlaceLemmas.{not_below}
 use Rattle.nz_rays.proofs.CrossingLemmas.{crossings_skip, found_push, found_none, crossings_next}
 use Rattle.nz_rays.proofs.crossings.with_crossings_of.Goals as goal
-use Rattle.nz_rays.proofs.crossings.with_crossings_of.Goals.{then-is_negative+in-Ok+in-Some+in-Ok-push, then-is_negative+in-Ok+in-None, else-is_negative}
+use Rattle.nz_rays.proofs.crossings.with_crossings_of.Goals.{then-is_negative+in-Ok-crossing_of+in-Some+in-Ok-push, then-is_negative+in-Ok-crossing_of+in-None, else-is_negative}
+
+pub near_places-requires-clause-first : goal.near_places-requires-clause-first
+near_places-requires-clause-first g c = columns_count c.args.zeros.now c.args.columns.now c.args.above c.requires.columns (omega (arith, c.requires.within, c.requires.count))
+
+pub near_places-requires-clause-bound : goal.near_places-requires-clause-bound
+near_places-requires-clause-bound g c = subst (λ (n : ℕ). Each (λ w. length w ≡ n) c.args.columns.now) (sym c.len.ensures) (columns_wide c.args.zeros.now c.args.columns.now c.requires.columns)
 
 pub loop-below-preserved : goal.loop-below-preserved
 loop-below-preserved g c =
     let within : c.loop-below.below < length c.args.values.now = omega (arith, c.loop-below-test.true, c.len-below-end.ensures) in
     elim c.if-is_negative.branch [
-      | then-is_negative+in-Ok+in-Some+in-Ok-push w ↦ rw w.list-is (found_push c.args.values.now c.args.zeros.now c.args.above c.loop-below.below c.loop-below.list.items w.push.new.self.items w.in-Ok.found w.in-Some.crossing c.loop-below.invariant
-          (record { above_within = c.requires.within; below_within = within; over = c.requires.positive; under = subst (λ t. t <ℤ pos 0) c.at.ensures (w.if-is_negative.ensures.0 refl) }) w.in-Some.is w.in-Ok.ensures w.in-Ok-push.ensures.items)
-      | then-is_negative+in-Ok+in-None w ↦ rw w.list-is (crossings_skip c.args.values.now c.args.zeros.now c.args.above c.loop-below.below c.loop-below.list.items c.loop-below.invariant (λ s. found_none c.args.zeros.now c.args.above c.loop-below.below w.in-Ok.found w.in-None.is w.in-Ok.ensures))
+      | then-is_negative+in-Ok-crossing_of+in-Some+in-Ok-push w ↦ rw w.list-is (found_push c.args.values.now c.args.zeros.now c.args.above c.loop-below.below c.loop-below.list.items w.push.new.self.items w.in-Ok-crossing_of.found w.in-Some.crossing c.loop-below.invariant
+          (record { above_within = c.requires.within; below_within = within; over = c.requires.positive; under = subst (λ t. t <ℤ pos 0) c.at.ensures (w.if-is_negative.ensures.0 refl) }) w.in-Some.is w.in-Ok-crossing_of.ensures w.in-Ok-push.ensures.items)
+      | then-is_negative+in-Ok-crossing_of+in-None w ↦ rw w.list-is (crossings_skip c.args.values.now c.args.zeros.now c.args.above c.loop-below.below c.loop-below.list.items c.loop-below.invariant (λ s. found_none c.args.zeros.now c.args.above c.loop-below.below w.in-Ok-crossing_of.found w.in-None.is w.in-Ok-crossing_of.ensures))
       | else-is_negative w ↦ rw w.list-is (crossings_skip c.args.values.now c.args.zeros.now c.args.above c.loop-below.below c.loop-below.list.items c.loop-below.invariant (λ s. absurd (not_below _ _ c.at.ensures w.if-is_negative.ensures.1 s.under)))
     ]
 
