@@ -1,6 +1,6 @@
 -- Sets of places as words of bits: what the words of two or three sets say of their common places.
 use Rattle.std.proofs.Common.{◌≡◌, ◌≢◌, ◌⊎◌, inl, inr, ⊎_elim, ℕ, zero, suc, ◌+◌, ◌-◌, ◌*◌, ◌/◌, ◌%◌, ◌^◌, ◌<◌, ◌≤◌, List, [], ◌∷◌, ◌++◌, length, get_or, take, true, false, refl, sym, ap, ◌∙◌, subst, arith}
-use Rattle.std.specs.List.{AllByRecursion as Each, AllZip, Contains}
+use Rattle.std.specs.List.{AllByRecursion as Each, Contains}
 use Rattle.std.specs.Int.{bit_at}
 use Rattle.std.specs.Int.Bits.{bit_and, bit_or}
 use Rattle.std.specs.Int.Count.{ones, ones_step}
@@ -8,8 +8,8 @@ use Rattle.std.proofs.lemmas.Nat.{pow_below}
 use Rattle.std.proofs.lemmas.Nat.Bits.{bit_at_lowest, bit_at-suc, bit_at-zero, bit_at_and, bit_at_or, bit_at-pow_same, bit_at-pow_other, bit_at-lt, same_from_bits}
 use Rattle.std.proofs.lemmas.List.{take_more, take_all, get_or_default, get_or_append_left, get_or_push, length_push}
 use Rattle.std.proofs.lemmas.List.Elements.{Contains-append_left, Contains-push, Contains-push_cases}
-use Rattle.nz_spec.specs.Order.{Pairwise, IsListOf}
-use Rattle.nz_spec.proofs.ListLaws.{Each-contains, Each-from_contains}
+use Rattle.nz_spec.specs.Order.{Pairwise}
+use Rattle.nz_spec.proofs.ListLaws.{Each-contains}
 use Rattle.nz_pointed.proofs.ListLemmas.{each_at}
 use Rattle.nz_linear.proofs.Lists.{each_map, each_map2, each_append}
 use Rattle.nz_rays.specs.Words.{HasBit, IsWordOf, IsWordWith, IsColumn, AreColumnsOf, AreColumns, IsPlaceIn, AreNear, HaveFew, TellsCovered}

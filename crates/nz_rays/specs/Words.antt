@@ -2,7 +2,7 @@
 use Rattle.std.specs.Prelude.{◌≡◌, ◌⊎◌, ℕ, ◌+◌, ◌*◌, ◌<◌, List, [], length, get_or, Contains, Bool, MatchBool}
 use Rattle.std.specs.List.{AllByRecursion as Each, AllZip}
 use Rattle.std.specs.Int.{bit_at}
-use Rattle.nz_rays.specs.Crossings.{AreCommon, HasNoThird, HasThird, IsThird}
+use Rattle.nz_rays.specs.Crossings.{AreCommon, HasThird, IsThird}
 
 -- this bit of the word is set
 abbrev pub HasBit : ℕ → ℕ → Type 0

@@ -1,4 +1,4 @@
-use Rattle.std.proofs.Common.{◌<◌, [], length, get_or, refl, arith}
+use Rattle.std.proofs.Common.{◌<◌, [], get_or, refl, arith}
 use Rattle.nz_spec.specs.Order.{Pairwise}
 use Rattle.nz_pointed.proofs.ListLemmas.{each_at}
 use Rattle.nz_rays.proofs.PlaceLemmas.{common_list}

@@ -1,4 +1,4 @@
-use Rattle.std.proofs.Common.{◌<◌, [], length, get_or, ◌∙◌, arith}
+use Rattle.std.proofs.Common.{◌<◌, [], length, ◌∙◌, arith}
 use Rattle.std.proofs.lemmas.List.{get_or_default}
 use Rattle.nz_pointed.proofs.ListLemmas.{zip_more}
 use Rattle.nz_rays.specs.Words.{IsWordOf}
