@@ -29,7 +29,8 @@ use Rattle.nz_rays.specs.declared.crossings.Crossing.{Crossing}
 use Rattle.nz_rays.specs.Descriptions.{IsDescription, IsDouble, VanishesAt, AreZeros}
 use Rattle.nz_rays.specs.Crossings.{AreCommon, HasNoThird, IsCovered, AreOnBothSides, IsCrossing, IsBefore, HasCrossing}
 use Rattle.nz_rays.specs.Cuts.{IsKeptAt, crossing_sum, IsSum, AreKeptZeros, AreSumZeros, IsCutByValues}
-use Rattle.nz_rays.proofs.PlaceLemmas.{same_or_not, listed_push, listed_same, below_next, zip_at, zip_length, Beside, zip_beside}
+pub use Rattle.nz_rays.proofs.PlaceLemmas.{same_or_not}
+use Rattle.nz_rays.proofs.PlaceLemmas.{listed_push, listed_same, below_next, zip_at, zip_length, Beside, zip_beside}
 
 -- ---- lists
 pub each_from_at : {A : Type 0} (P : A → Type 0) (d : A) (xs : List A) → ((i : ℕ) → i < length xs → P (get_or xs i d)) → Each P xs
