@@ -32,6 +32,3 @@ pub use outcome::Outcome;
 pub use read::read_blocks;
 pub use refusal::BlockRefusal;
 pub use text::blocks;
-
-#[cfg(test)]
-mod tests;

@@ -14,8 +14,6 @@ mod reading;
 mod refusal;
 mod spell;
 mod symbol;
-#[cfg(test)]
-mod tests;
 mod writing;
 
 pub use file::{File, Goals, Item, Items};

@@ -13,8 +13,6 @@ mod meaning;
 mod refusal;
 mod rules;
 mod system;
-#[cfg(test)]
-mod tests;
 
 pub use asked::GoalSet;
 pub use meaning::system_of;

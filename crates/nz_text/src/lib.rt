@@ -11,8 +11,6 @@ mod pieces;
 mod places;
 mod scan;
 mod spans;
-#[cfg(test)]
-mod tests;
 
 pub use found::{Found, Span, TextFault, TextRefusal};
 pub use laws::steps_are_unique;

@@ -12,8 +12,6 @@ mod name;
 mod number;
 mod ordering;
 mod reading;
-#[cfg(test)]
-mod tests;
 
 pub use laws::words_order_one_thing;
 pub use name::Name;

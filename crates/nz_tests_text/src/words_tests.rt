@@ -1,5 +1,5 @@
 //! The words of worked command lines, and what they order.
-use crate::{RunOrder, WatchChoice, WordsRefusal, order, watch_choice};
+use nz_words::{RunOrder, WatchChoice, WordsRefusal, order, watch_choice};
 use std::alloc::Global;
 use std::test::Fail;
 

@@ -4,7 +4,7 @@ ghost use Rattle.std.specs.List.{AllByRecursion as Each};
 ghost use Rattle.nz_spec.specs.Vectors.{HasWidth};
 ghost use Rattle.nz_blocks.specs.TestAnswers.{three, zero_fails, odd_three, two_fails};
 
-use crate::{AskedList, BlockRefusal, Outcome, blocks, read_blocks};
+use nz_blocks::{AskedList, BlockRefusal, Outcome, blocks, read_blocks};
 use nz_member::Reply;
 use nz_vec::{Constraint, PlaceLists, Places, Row, Rows};
 use std::alloc::Global;

@@ -1,5 +1,5 @@
 //! The pieces of a small text, and the place of a byte.
-use crate::{Span, TextFault, TextRefusal, place, tokens};
+use nz_text::{Span, TextFault, TextRefusal, place, tokens};
 use std::test::Fail;
 
 #[test]

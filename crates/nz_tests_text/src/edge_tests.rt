@@ -1,6 +1,9 @@
 ghost use Rattle.std.specs.Prelude.{◌≤◌, IfOk, length};
 
-use super::*;
+use nz_edge::{
+    DiskFolder, Folder, LinesWatch, Load, MemFolder, MemSink, MemWatch, Sink, StopWatch, Stored,
+    Watch, put_all,
+};
 use nz_vec::Bytes;
 use std::alloc::Global;
 use std::fs;

@@ -1,6 +1,6 @@
 //! Systems of files with every kind of item, and for each rule of meaning files that break it.
-use crate::{GoalSet, System, SystemRefusal, system_of};
 use nz_input::{Goal, Goals, Mode, read};
+use nz_system::{GoalSet, System, SystemRefusal, system_of};
 use nz_vec::{Constraint, Constraints, Row, Rows};
 use std::alloc::Global;
 use std::test::Fail;
