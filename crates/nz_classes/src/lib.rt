@@ -14,6 +14,3 @@ mod values;
 mod walking;
 
 pub use walking::walk;
-
-#[cfg(test)]
-mod tests;

@@ -13,6 +13,3 @@ mod placing;
 
 pub use covering::place;
 pub use listing::Cover;
-
-#[cfg(test)]
-mod tests;

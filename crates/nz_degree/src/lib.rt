@@ -17,6 +17,3 @@ pub use elements::degrees_are_elements;
 pub use picking::degree_one;
 pub use positivity::Positivity;
 pub use sorting::sort;
-
-#[cfg(test)]
-mod tests;

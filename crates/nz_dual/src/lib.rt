@@ -16,6 +16,3 @@ mod values;
 
 pub use running::dual;
 pub use stages::Stage;
-
-#[cfg(test)]
-mod tests;

@@ -12,8 +12,3 @@ mod raying;
 
 pub use constraining::{cone_constraints, constraints_of};
 pub use describing::{Description, describe};
-
-#[cfg(test)]
-mod constraints_tests;
-#[cfg(test)]
-mod tests;

@@ -18,6 +18,3 @@ pub use answering::answer;
 pub use meeting::member;
 pub use members::members_have_parts;
 pub use reply::Reply;
-
-#[cfg(test)]
-mod tests;

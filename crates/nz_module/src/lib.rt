@@ -8,6 +8,3 @@
 mod levels;
 
 pub use levels::{Levels, levels_are_elements, split};
-
-#[cfg(test)]
-mod tests;

@@ -12,6 +12,3 @@ mod starting;
 mod units;
 
 pub use starting::{Equations, Pointed, Simplex, equations_of, start};
-
-#[cfg(test)]
-mod tests;

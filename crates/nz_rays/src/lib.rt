@@ -12,6 +12,3 @@ mod words;
 mod zero_sets;
 
 pub use double::Double;
-
-#[cfg(test)]
-mod tests;

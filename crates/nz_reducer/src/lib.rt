@@ -13,6 +13,3 @@ mod valued;
 pub use irreducible::irreducibles;
 pub use list_table::ListTable;
 pub use table::Table;
-
-#[cfg(test)]
-mod tests;

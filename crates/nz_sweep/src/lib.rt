@@ -21,8 +21,3 @@ mod units;
 mod valued;
 
 pub use basis::Basis;
-
-#[cfg(test)]
-mod generating_tests;
-#[cfg(test)]
-mod tests;

@@ -1,6 +1,0 @@
-use Rattle.std.proofs.Common.{◌≡◌, vec_len}
-use Rattle.std.specs.Prelude.{vec_capacity}
-use Rattle.nz_facets.proofs.constraints_tests.row.Given as goal
-
-abbrev pub invariant-loop-place : goal.invariant-loop-place
-invariant-loop-place g l = (vec_len l.values ≡ l.place) × (vec_capacity l.values ≡ l.width)

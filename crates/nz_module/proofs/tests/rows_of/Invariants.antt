@@ -1,6 +1,0 @@
-use Rattle.std.specs.List.{AllByRecursion as Each}
-use Rattle.nz_module.specs.Levels.{HasEntry}
-use Rattle.nz_module.proofs.tests.rows_of.Given as goal
-
-abbrev pub invariant-loop-entry : goal.invariant-loop-entry
-invariant-loop-entry g l = Each HasEntry l.rows

@@ -1,6 +1,0 @@
-use Rattle.std.specs.List.{AllByRecursion as Each}
-use Rattle.nz_spec.specs.Vectors.{HasWidth}
-use Rattle.nz_reducer.proofs.tests.vectors.Given as goal
-
-abbrev pub invariant-loop-entries : goal.invariant-loop-entries
-invariant-loop-entries g l = Each (HasWidth 2) l.rows

@@ -1,6 +1,0 @@
-use Rattle.std.specs.List.{AllByRecursion as Each}
-use Rattle.nz_spec.specs.Vectors.{HasWidth}
-use Rattle.nz_sweep.proofs.generating_tests.rows.Given as goal
-
-abbrev pub invariant-loop-place : goal.invariant-loop-place
-invariant-loop-place g l = Each (HasWidth l.width) l.rows

@@ -1,0 +1,6 @@
+use Rattle.std.proofs.Common.{◌≡◌, vec_len}
+use Rattle.std.specs.Prelude.{vec_capacity}
+use Rattle.nz_tests_engines.proofs.facets_constraints_tests.row.Given as goal
+
+abbrev pub invariant-loop-place : goal.invariant-loop-place
+invariant-loop-place g l = (vec_len l.values ≡ l.place) × (vec_capacity l.values ≡ l.width)
