@@ -13,6 +13,3 @@ mod running;
 mod second;
 
 pub use running::{PrimalLists, primal};
-
-#[cfg(test)]
-mod tests;

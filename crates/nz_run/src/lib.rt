@@ -9,8 +9,6 @@ mod built;
 mod solving;
 mod status;
 mod status_lines;
-#[cfg(test)]
-mod tests;
 mod top;
 
 pub use built::Keyword;

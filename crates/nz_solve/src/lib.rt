@@ -18,6 +18,3 @@ mod solving;
 
 pub use refusal::SolveRefusal;
 pub use solving::solve;
-
-#[cfg(test)]
-mod tests;

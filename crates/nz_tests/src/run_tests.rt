@@ -1,8 +1,8 @@
 //! Runs over files, a console and a watch in memory: the worked files, and each status once.
 ghost use Rattle.std.specs.Prelude.{◌≤◌, IfOk, IfSome, length};
 
-use crate::run;
 use nz_edge::{MemFolder, MemSink, MemWatch, Watch};
+use nz_run::run;
 use nz_vec::Bytes;
 use std::alloc::Global;
 use std::test::Fail;

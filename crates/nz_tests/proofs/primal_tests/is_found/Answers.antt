@@ -4,7 +4,7 @@ use Rattle.nz_spec.specs.Vectors.{HasWidth}
 use Rattle.nz_pointed.specs.declared.starting.Pointed.{Pointed}
 use Rattle.nz_pointed.specs.Pointed.{IsAnswer}
 use Rattle.nz_facets.proofs.RayLemmas.{simplex_size, simplex_whole}
-use Rattle.nz_primal.proofs.tests.is_found.Goals as goal
+use Rattle.nz_tests.proofs.primal_tests.is_found.Goals as goal
 
 pub agrees-requires-clause-widths : goal.agrees-requires-clause-widths
 agrees-requires-clause-widths g c =
