@@ -1,6 +1,5 @@
 pub mod Laying
 pub mod DigitLemmas
-pub mod TestLemmas
 pub mod NumberTexts
 pub mod RowTexts
 pub mod AnswerTexts

@@ -7,6 +7,5 @@ pub mod Beginnings
 pub mod Held
 pub mod Sections
 pub mod Laws
-pub mod TestAnswers
 pub mod Readings
 pub mod Shapes

@@ -3,7 +3,7 @@ use Rattle.std.proofs.Common.{◌≡◌, pos, negsuc, true, [], ◌∷◌, refl,
 use Rattle.std.specs.List.{AllByRecursion as Each}
 use Rattle.nz_spec.specs.Constraints.{NotNegative, Multiple}
 use Rattle.nz_blocks.specs.Outcomes.{OutcomeData, HasValueAt, IsAsked, number}
-use Rattle.nz_blocks.specs.TestAnswers.{three, zero_fails, odd_three, two_fails}
+use Rattle.nz_tests_text.specs.TestAnswers.{three, zero_fails, odd_three, two_fails}
 
 has_value : HasValueAt true (pos 0 ∷ []) (NotNegative (pos 1 ∷ negsuc 0 ∷ []))
 has_value = record {

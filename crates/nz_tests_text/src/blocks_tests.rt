@@ -2,7 +2,7 @@
 ghost use Rattle.std.specs.Prelude.{◌≡◌, ◌∷◌, [], pos, IfOk, length};
 ghost use Rattle.std.specs.List.{AllByRecursion as Each};
 ghost use Rattle.nz_spec.specs.Vectors.{HasWidth};
-ghost use Rattle.nz_blocks.specs.TestAnswers.{three, zero_fails, odd_three, two_fails};
+ghost use Rattle.nz_tests_text.specs.TestAnswers.{three, zero_fails, odd_three, two_fails};
 
 use nz_blocks::{AskedList, BlockRefusal, Outcome, blocks, read_blocks};
 use nz_member::Reply;
