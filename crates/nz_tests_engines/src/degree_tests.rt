@@ -6,10 +6,11 @@ ghost use Rattle.nz_spec.specs.Vectors.{HasWidth};
 use nz_degree::{Positivity, check, degree_one, sort};
 use nz_vec::{Row, Rows, Scalar};
 use std::alloc::Global;
-use std::process::Abort;
 use std::test::Fail;
 
-// The rows in order by the second entry.
+const GIVEN: [[i64; 2]; 4] = [[1, 2], [2, 1], [1, 3], [1, 1]];
+
+// These rows in order by the second entry.
 const IN_ORDER: [[i64; 2]; 4] = [[1, 1], [2, 1], [1, 2], [1, 3]];
 
 fn row<T: Scalar>(alloc: Global, entries: [i64; 2]) -> Result<Row<T>, Fail>
@@ -58,8 +59,32 @@ fn reads<T: Scalar>(row: &Row<T>, entries: [i64; 2]) -> bool {
         && row.at(1).to_i128() == i128::from(second)
 }
 
-fn grades<T: Scalar>(rt: &impl Abort, alloc: Global) -> Result<(), Fail> {
-    let mut list = match rows_of::<T>(alloc, [[1, 2], [2, 1], [1, 3], [1, 1]]) {
+fn lists<T: Scalar>(rows: &Rows<T>, wanted: &[[i64; 2]]) -> bool {
+    if rows.len() != wanted.len() {
+        return false;
+    }
+    for place in 0..wanted.len() {
+        if place < rows.len() && !reads(rows.at(place), wanted[place]) {
+            return false;
+        }
+    }
+    true
+}
+
+fn checks<T: Scalar>(alloc: Global, entries: [i64; 2], wanted: Positivity) -> Result<bool, Fail> {
+    let list = match rows_of::<T>(alloc, GIVEN) {
+        Ok(list) => list,
+        Err(fail) => return Err(fail),
+    };
+    let grading = match row::<T>(alloc, entries) {
+        Ok(grading) => grading,
+        Err(fail) => return Err(fail),
+    };
+    Ok(check(&grading, &list) == Ok(wanted))
+}
+
+fn picks<T: Scalar>(alloc: Global) -> Result<bool, Fail> {
+    let list = match rows_of::<T>(alloc, GIVEN) {
         Ok(list) => list,
         Err(fail) => return Err(fail),
     };
@@ -67,37 +92,47 @@ fn grades<T: Scalar>(rt: &impl Abort, alloc: Global) -> Result<(), Fail> {
         Ok(grading) => grading,
         Err(fail) => return Err(fail),
     };
-    let steep = match row::<T>(alloc, [2, -1]) {
-        Ok(steep) => steep,
+    match degree_one(alloc, &grading, &list) {
+        Ok(one) => Ok(lists(&one, &[[2, 1], [1, 1]])),
+        Err(_) => Ok(false),
+    }
+}
+
+fn sorts<T: Scalar>(alloc: Global) -> Result<bool, Fail> {
+    let mut list = match rows_of::<T>(alloc, GIVEN) {
+        Ok(list) => list,
         Err(fail) => return Err(fail),
     };
-    assert!(rt; check(&grading, &list) == Ok(Positivity::Positive));
-    assert!(rt; check(&steep, &list) == Ok(Positivity::NotPositive(2)));
-    let one = degree_one(alloc, &grading, &list).or(Err("refused"))?;
-    assert_eq!(rt; one.len(), 2);
-    assert!(rt; reads(one.at(0), [2, 1]));
-    assert!(rt; reads(one.at(1), [1, 1]));
-    sort(alloc, &mut list, Some(&grading)).or(Err("refused"))?;
-    assert_eq!(rt; list.len(), 4);
-    for place in 0..4 {
-        assert!(rt; reads(list.at(place), IN_ORDER[place]));
+    let grading = match row::<T>(alloc, [0, 1]) {
+        Ok(grading) => grading,
+        Err(fail) => return Err(fail),
+    };
+    match sort(alloc, &mut list, Some(&grading)) {
+        Ok(()) => Ok(lists(&list, &IN_ORDER)),
+        Err(_) => Ok(false),
     }
-    Ok(())
 }
 
 // The plane with the grading (1, -1): of its two elements (0, 1) alone is not positive.
-fn names_the_fault<T: Scalar>(rt: &impl Abort, alloc: Global) -> Result<(), Fail> {
+fn names_the_fault<T: Scalar>(alloc: Global) -> Result<bool, Fail> {
     let one = with::<T>(alloc, Rows::new(alloc), [1, 0])?;
     let plane = with(alloc, one, [0, 1])?;
     let grading = row::<T>(alloc, [1, -1])?;
-    assert!(rt; check(&grading, &plane) == Ok(Positivity::NotPositive(1)));
-    Ok(())
+    Ok(check(&grading, &plane) == Ok(Positivity::NotPositive(1)))
+}
+
+fn grades<T: Scalar>(alloc: Global) -> Result<bool, Fail> {
+    let is_positive = checks::<T>(alloc, [0, 1], Positivity::Positive)?;
+    let is_named = checks::<T>(alloc, [2, -1], Positivity::NotPositive(2))?;
+    let is_picked = picks::<T>(alloc)?;
+    let is_sorted = sorts::<T>(alloc)?;
+    let is_first = names_the_fault::<T>(alloc)?;
+    Ok(is_positive && is_named && is_picked && is_sorted && is_first)
 }
 
 #[test]
 fn by_degree(rt: HostRuntime) -> Result<(), Fail> {
-    grades::<i64>(&rt, rt.alloc())?;
-    grades::<i128>(&rt, rt.alloc())?;
-    names_the_fault::<i64>(&rt, rt.alloc())?;
-    names_the_fault::<i128>(&rt, rt.alloc())
+    assert!(rt; grades::<i64>(rt.alloc())?);
+    assert!(rt; grades::<i128>(rt.alloc())?);
+    Ok(())
 }

@@ -6,7 +6,6 @@ ghost use Rattle.nz_module.specs.Levels.{HasEntry};
 use nz_module::split;
 use nz_vec::{Row, Rows, Scalar};
 use std::alloc::Global;
-use std::process::Abort;
 use std::test::Fail;
 
 fn row<T: Scalar>(alloc: Global, entries: [i64; 2]) -> Result<Row<T>, Fail>
@@ -55,22 +54,32 @@ fn reads<T: Scalar>(row: &Row<T>, entries: [i64; 2]) -> bool {
         && row.at(1).to_i128() == i128::from(second)
 }
 
-fn splits<T: Scalar>(rt: &impl Abort, alloc: Global) -> Result<(), Fail> {
+fn lists<T: Scalar>(rows: &Rows<T>, wanted: &[[i64; 2]]) -> bool {
+    if rows.len() != wanted.len() {
+        return false;
+    }
+    for place in 0..wanted.len() {
+        if place < rows.len() && !reads(rows.at(place), wanted[place]) {
+            return false;
+        }
+    }
+    true
+}
+
+fn splits<T: Scalar>(alloc: Global) -> Result<bool, Fail> {
     let list = match rows_of::<T>(alloc, [[1, 0], [1, 1], [1, 2], [2, 1]]) {
         Ok(list) => list,
         Err(fail) => return Err(fail),
     };
-    let levels = split(alloc, &list).or(Err("no memory"))?;
-    assert_eq!(rt; levels.zero.len(), 1);
-    assert!(rt; reads(levels.zero.at(0), [1, 0]));
-    assert_eq!(rt; levels.one.len(), 2);
-    assert!(rt; reads(levels.one.at(0), [1, 1]));
-    assert!(rt; reads(levels.one.at(1), [2, 1]));
-    Ok(())
+    match split(alloc, &list) {
+        Ok(levels) => Ok(lists(&levels.zero, &[[1, 0]]) && lists(&levels.one, &[[1, 1], [2, 1]])),
+        Err(_) => Ok(false),
+    }
 }
 
 #[test]
 fn by_level(rt: HostRuntime) -> Result<(), Fail> {
-    splits::<i64>(&rt, rt.alloc())?;
-    splits::<i128>(&rt, rt.alloc())
+    assert!(rt; splits::<i64>(rt.alloc())?);
+    assert!(rt; splits::<i128>(rt.alloc())?);
+    Ok(())
 }

@@ -2,7 +2,7 @@ ghost use Rattle.std.specs.Prelude.{◌≡◌, IfOk, length};
 ghost use Rattle.std.specs.List.{AllByRecursion as Each};
 ghost use Rattle.nz_spec.specs.Vectors.{HasWidth};
 
-use nz_pointed::{Pointed, equations_of, start};
+use nz_pointed::{Equations, Pointed, equations_of, start};
 use nz_vec::{Row, Rows, Scalar};
 use std::alloc::Global;
 use std::process::Abort;
@@ -121,6 +121,28 @@ const DESCRIBED: [([[i64; 2]; 3], usize, usize, [i64; 2]); 3] = [
     ([[0, 0], [0, 0], [0, 0]], 2, 0, [1, 0]),
 ];
 
+// Whether there are so many equations, and this is the first.
+fn begins<T: Scalar>(
+    equations: &Equations<T>,
+    count: usize,
+    column: usize,
+    form: [i64; 2],
+) -> bool {
+    if equations.columns.len() != count {
+        return false;
+    }
+    if equations.forms.len() != count {
+        return false;
+    }
+    if count == 0 {
+        return true;
+    }
+    equations.columns.len() > 0
+        && equations.forms.len() > 0
+        && equations.columns.at(0) == column
+        && reads(equations.forms.at(0), form)
+}
+
 fn describes<T: Scalar>(rt: &impl Abort, alloc: Global) -> Result<(), Fail> {
     for (entries, count, column, form) in DESCRIBED {
         let rows = match rows_of::<T>(alloc, entries) {
@@ -128,12 +150,7 @@ fn describes<T: Scalar>(rt: &impl Abort, alloc: Global) -> Result<(), Fail> {
             Err(fail) => return Err(fail),
         };
         let equations = equations_of(alloc, &rows, 2).or(Err("refused"))?;
-        assert!(rt; equations.columns.len() == count && equations.forms.len() == count);
-        if count > 0 {
-            assert!(rt; equations.columns.len() > 0 && equations.forms.len() > 0);
-            let is_wanted = equations.columns.at(0) == column && reads(equations.forms.at(0), form);
-            assert!(rt; is_wanted);
-        }
+        assert!(rt; begins(&equations, count, column, form));
     }
     Ok(())
 }

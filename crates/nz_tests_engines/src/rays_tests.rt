@@ -166,20 +166,30 @@ fn plane<T: Scalar>(rt: &impl Abort, alloc: Global) -> Result<(), Fail> {
     Ok(())
 }
 
-fn space<T: Scalar>(rt: &impl Abort, alloc: Global) -> Result<(), Fail> {
+fn is_at<T: Scalar>(double: &Double<T>, step: Step) -> bool {
+    let [first, second, third] = step.rays;
+    let [at_first, at_second, at_third] = step.zeros;
+    double.rays().len() == step.count
+        && has(double, &first, at_first)
+        && has(double, &second, at_second)
+        && has(double, &third, at_third)
+}
+
+fn unit_rows<T: Scalar>(alloc: Global) -> Result<Rows<T>, Fail>
+    ensures { IfOk result (Each (HasWidth 3)) }
+{
     let rows = with(alloc, Rows::new(alloc), &[1, 0, 0], 3)?;
     let rows = with(alloc, rows, &[0, 1, 0], 3)?;
-    let rows = with(alloc, rows, &[0, 0, 1], 3)?;
+    with(alloc, rows, &[0, 0, 1], 3)
+}
+
+fn space<T: Scalar>(rt: &impl Abort, alloc: Global) -> Result<(), Fail> {
+    let rows = unit_rows(alloc)?;
     let mut double = started::<T>(alloc, &rows, 3)?;
     for step in STEPS {
         let added = row(alloc, &step.added)?;
         double.add(alloc, &added).or(Err("refused"))?;
-        let [first, second, third] = step.rays;
-        let [at_first, at_second, at_third] = step.zeros;
-        assert_eq!(rt; double.rays().len(), step.count);
-        assert!(rt; has(&double, &first, at_first));
-        assert!(rt; has(&double, &second, at_second));
-        assert!(rt; has(&double, &third, at_third));
+        assert!(rt; is_at(&double, step));
     }
     Ok(())
 }

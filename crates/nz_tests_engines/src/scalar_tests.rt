@@ -1,5 +1,4 @@
 use nz_scalar::Scalar;
-use std::process::Abort;
 
 // A number, what it is divided by, the floor of the quotient and the gcd of the two.
 const CASES: [[i64; 4]; 5] = [
@@ -10,62 +9,60 @@ const CASES: [[i64; 4]; 5] = [
     [0, 5, 0, 5],
 ];
 
-fn divides<T: Scalar>(rt: &impl Abort) {
+fn is_number<T: Scalar>(number: Option<T>, wanted: i64) -> bool {
+    match number {
+        Some(n) => n.to_i128() == i128::from(wanted),
+        None => false,
+    }
+}
+
+fn divides<T: Scalar>(case: [i64; 4]) -> bool {
+    let [a, by, floor, gcd] = case;
+    if by == 0 {
+        return false;
+    }
+    is_number(T::of_i64(a).floor_div(T::of_i64(by)), floor)
+        && is_number(T::of_i64(a).gcd(T::of_i64(by)), gcd)
+}
+
+#[test]
+fn divisions(rt: HostRuntime) {
     for case in CASES {
-        let [a, by, floor, gcd] = case;
-        assert!(rt; by != 0);
-        let quotient = T::of_i64(a).floor_div(T::of_i64(by));
+        let [a, by, _, _] = case;
         assert!(rt;
-            quotient.map(|q| q.to_i128()) == Some(i128::from(floor)),
-            "{a} by {by}"
-        );
-        let divisor = T::of_i64(a).gcd(T::of_i64(by));
-        assert!(rt;
-            divisor.map(|d| d.to_i128()) == Some(i128::from(gcd)),
+            divides::<i64>(case) && divides::<i128>(case),
             "{a} and {by}"
         );
     }
 }
 
-#[test]
-fn divisions(rt: HostRuntime) {
-    divides::<i64>(&rt);
-    divides::<i128>(&rt);
-}
-
 // Two numbers, their sum, their difference and their product.
 const SUMS: [[i64; 5]; 3] = [[3, 5, 8, -2, 15], [-7, 2, -5, -9, -14], [0, -4, -4, 4, 0]];
 
-fn reckons<T: Scalar>(rt: &impl Abort, beyond: Option<T>) {
-    for case in SUMS {
-        let [a, b, sum, difference, product] = case;
-        let left = T::of_i64(a);
-        let right = T::of_i64(b);
-        assert!(rt;
-            left.try_add(right).map(|n| n.to_i128()) == Some(i128::from(sum)),
-            "{a} + {b}"
-        );
-        assert!(rt;
-            left.try_sub(right).map(|n| n.to_i128()) == Some(i128::from(difference)),
-            "{a} - {b}"
-        );
-        assert!(rt;
-            left.try_mul(right).map(|n| n.to_i128()) == Some(i128::from(product)),
-            "{a} times {b}"
-        );
-        assert!(rt;
-            T::of_i128(i128::from(a)).map(|n| n.to_i128()) == Some(i128::from(a)),
-            "{a} at another width"
-        );
-    }
-    assert!(rt; beyond.is_none(), "a number past the end");
+fn reckons<T: Scalar>(case: [i64; 5]) -> bool {
+    let [a, b, sum, difference, product] = case;
+    let left = T::of_i64(a);
+    let right = T::of_i64(b);
+    is_number(left.try_add(right), sum)
+        && is_number(left.try_sub(right), difference)
+        && is_number(left.try_mul(right), product)
+        && is_number(T::of_i128(i128::from(a)), a)
 }
 
 #[test]
 fn sums(rt: HostRuntime) {
-    reckons::<i64>(&rt, i64::of_i128(9223372036854775808));
-    reckons::<i128>(
-        &rt,
-        i128::of_i64(i64::MAX).try_mul(i128::of_i128(i128::MAX).unwrap_or(0)),
-    );
+    for case in SUMS {
+        let [a, b, _, _, _] = case;
+        assert!(rt;
+            reckons::<i64>(case) && reckons::<i128>(case),
+            "{a} and {b}"
+        );
+    }
+}
+
+#[test]
+fn past_the_end(rt: HostRuntime) {
+    let narrow = i64::of_i128(9223372036854775808);
+    let wide = i128::of_i64(i64::MAX).try_mul(i128::of_i128(i128::MAX).unwrap_or(0));
+    assert!(rt; narrow.is_none() && wide.is_none());
 }

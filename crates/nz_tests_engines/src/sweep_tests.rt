@@ -3,7 +3,6 @@ ghost use Rattle.std.specs.Prelude.{◌≡◌, IfOk, length};
 use nz_sweep::Basis;
 use nz_vec::{Num, Row, Scalar};
 use std::alloc::Global;
-use std::process::Abort;
 use std::test::Fail;
 
 // A form, and the modulus of which it is to be a multiple; it is to be 0 where that is 0.
@@ -211,32 +210,48 @@ fn leads_back<T: Scalar>(
     }
 }
 
-fn cuts<T: Scalar>(rt: &impl Abort, alloc: Global) -> Result<(), Fail> {
-    for case in CASES {
-        let basis = match basis_of::<T>(alloc, case.width, case.cuts) {
-            Ok(basis) => basis,
-            Err(fail) => return Err(fail),
-        };
-        let is_wanted = has_base(alloc, &basis, case.base)?;
-        assert!(rt; is_wanted);
-        let is_inside = leads_back(alloc, case.width, &basis, case.inside)?;
-        assert!(rt; is_inside);
-        let is_outside = !leads_back(alloc, case.width, &basis, case.outside)?;
-        assert!(rt; is_outside);
-        let form = match row::<T>(alloc, case.inside) {
-            Ok(form) => form,
-            Err(fail) => return Err(fail),
-        };
-        if case.inside.len() == case.width {
-            let pulled = basis.pull(alloc, &form).or(Err("refused"))?;
-            assert_eq!(rt; pulled.len(), case.base.len());
-        }
+// Whether the vector inside has coordinates, and the one outside has none.
+fn tells_apart<T: Scalar>(alloc: Global, basis: &Basis<T>, case: &Case) -> Result<bool, Fail>
+    requires { basis.now.width ≡ case.now.width }
+{
+    let is_inside = leads_back(alloc, case.width, basis, case.inside)?;
+    let is_outside = leads_back(alloc, case.width, basis, case.outside)?;
+    Ok(is_inside && !is_outside)
+}
+
+// Whether a form has an entry for each vector of the base.
+fn pulls<T: Scalar>(alloc: Global, basis: &Basis<T>, case: &Case) -> Result<bool, Fail>
+    requires { basis.now.width ≡ case.now.width }
+{
+    if case.inside.len() != case.width {
+        return Ok(false);
     }
-    Ok(())
+    let form = match row::<T>(alloc, case.inside) {
+        Ok(form) => form,
+        Err(fail) => return Err(fail),
+    };
+    match basis.pull(alloc, &form) {
+        Ok(pulled) => Ok(pulled.len() == case.base.len()),
+        Err(_) => Ok(false),
+    }
+}
+
+fn is_cut<T: Scalar>(alloc: Global, case: &Case) -> Result<bool, Fail> {
+    let basis = match basis_of::<T>(alloc, case.width, case.cuts) {
+        Ok(basis) => basis,
+        Err(fail) => return Err(fail),
+    };
+    let is_base = has_base(alloc, &basis, case.base)?;
+    let is_told = tells_apart(alloc, &basis, case)?;
+    let is_pulled = pulls(alloc, &basis, case)?;
+    Ok(is_base && is_told && is_pulled)
 }
 
 #[test]
 fn worked_lattices(rt: HostRuntime) -> Result<(), Fail> {
-    cuts::<i64>(&rt, rt.alloc())?;
-    cuts::<i128>(&rt, rt.alloc())
+    for case in CASES {
+        assert!(rt; is_cut::<i64>(rt.alloc(), &case)?);
+        assert!(rt; is_cut::<i128>(rt.alloc(), &case)?);
+    }
+    Ok(())
 }

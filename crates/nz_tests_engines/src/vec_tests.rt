@@ -1,3 +1,5 @@
+ghost use Rattle.std.specs.Prelude.{◌≡◌, length};
+
 use nz_vec::{Constraint, Constraints, Row, RowLists, Rows, Scalar, cmp_order};
 use std::alloc::Global;
 use std::cmp::Ordering;
@@ -57,50 +59,108 @@ fn reads<T: Scalar>(row: &Row<T>, entries: [i64; 2]) -> bool {
         && row.at(1).to_i128() == i128::from(second)
 }
 
+fn combines<T: Scalar>(u: &Row<T>, v: &Row<T>, case: Case, alloc: Global) -> bool
+    requires { length u.now ≡ length v.now }
+{
+    let [a, b] = case.factors;
+    match Row::combine(alloc, T::of_i64(a), u, T::of_i64(b), v) {
+        Ok(row) => reads(&row, case.combined),
+        Err(_) => false,
+    }
+}
+
+fn divides<T: Scalar>(u: &Row<T>, case: Case) -> bool {
+    match u.primitive() {
+        Ok(row) => reads(&row, case.primitive),
+        Err(_) => false,
+    }
+}
+
+fn widens<T: Scalar>(u: &Row<T>, entries: [i64; 2]) -> bool {
+    match u.widen() {
+        Ok(row) => reads(&row, entries),
+        Err(_) => false,
+    }
+}
+
+fn copies<T: Scalar>(u: &Row<T>, case: Case) -> bool {
+    let [first, _] = case.rows;
+    match u.try_copy() {
+        Ok(copy) => widens(&copy, first),
+        Err(_) => false,
+    }
+}
+
+fn compares<T: Scalar>(u: &Row<T>, v: &Row<T>, case: Case) -> bool
+    requires { length u.now ≡ length v.now }
+{
+    let [a, _] = case.factors;
+    cmp_order(T::of_i64(a), u, T::of_i64(a), v) == case.order
+}
+
+fn multiplies<T: Scalar>(u: &Row<T>, v: &Row<T>, case: Case) -> bool
+    requires { length u.now ≡ length v.now }
+{
+    match u.dot(v) {
+        Some(d) => d.to_i128() == i128::from(case.dot),
+        None => false,
+    }
+}
+
+fn agrees<T: Scalar>(u: &Row<T>, v: &Row<T>, case: Case, alloc: Global) -> bool {
+    u.len() == v.len()
+        && combines(u, v, case, alloc)
+        && divides(u, case)
+        && copies(u, case)
+        && compares(u, v, case)
+        && multiplies(u, v, case)
+}
+
 fn reckons<T: Scalar>(rt: &impl Abort, alloc: Global) -> Result<(), Fail> {
     for case in CASES {
         let [u, v] = case.rows;
-        let [a, b] = case.factors;
-        let (u, v) = (row::<T>(alloc, u)?, row::<T>(alloc, v)?);
-        assert_eq!(rt; u.len(), v.len());
-        let (a, b) = (T::of_i64(a), T::of_i64(b));
-        assert!(rt;
-            reads(
-                &Row::combine(alloc, a, &u, b, &v).or(Err("refused"))?,
-                case.combined
-            )
-        );
-        assert!(rt; reads(&u.primitive().or(Err("refused"))?, case.primitive));
-        assert!(rt; u.dot(&v).map(|d| d.to_i128()) == Some(i128::from(case.dot)));
-        assert!(rt; cmp_order(a, &u, a, &v) == case.order);
-        let copy = u
-            .try_copy()
-            .or(Err("no memory"))?
-            .widen()
-            .or(Err("no memory"))?;
-        assert!(rt; reads(&copy, case.rows[0]));
+        let u = row::<T>(alloc, u)?;
+        let v = row::<T>(alloc, v)?;
+        assert!(rt; agrees(&u, &v, case, alloc));
     }
     Ok(())
 }
 
-fn keeps<T: Scalar>(rt: &impl Abort, alloc: Global) -> Result<(), Fail> {
+fn lists_of<T: Scalar>(alloc: Global) -> Result<RowLists<T>, Fail> {
     let mut rows = Rows::new(alloc);
     rows.push(row::<T>(alloc, [5, 7])?).or(Err("no memory"))?;
     let mut lists = RowLists::new(alloc);
     lists.push(rows).or(Err("no memory"))?;
+    Ok(lists)
+}
+
+fn constraints_of<T: Scalar>(alloc: Global) -> Result<Constraints<T>, Fail> {
     let mut constraints = Constraints::new(alloc);
     constraints
         .push(Constraint::NotNegative(row::<T>(alloc, [5, 7])?))
         .or(Err("no memory"))?;
-    assert_eq!(rt; lists.len(), 1);
-    let rows = lists.at(0);
-    assert_eq!(rt; rows.len(), 1);
-    assert!(rt; reads(rows.at(0), [5, 7]));
-    assert_eq!(rt; constraints.len(), 1);
-    match constraints.at(0) {
-        Constraint::NotNegative(form) => assert!(rt; reads(form, [5, 7])),
-        _ => return Err(Fail::from("another kind")),
+    Ok(constraints)
+}
+
+fn keeps_rows<T: Scalar>(lists: &RowLists<T>) -> bool {
+    lists.len() == 1 && lists.at(0).len() == 1 && reads(lists.at(0).at(0), [5, 7])
+}
+
+fn keeps_form<T: Scalar>(constraints: &Constraints<T>) -> bool {
+    if constraints.len() != 1 {
+        return false;
     }
+    match constraints.at(0) {
+        Constraint::NotNegative(form) => reads(form, [5, 7]),
+        _ => false,
+    }
+}
+
+fn keeps<T: Scalar>(rt: &impl Abort, alloc: Global) -> Result<(), Fail> {
+    let lists = lists_of::<T>(alloc)?;
+    assert!(rt; keeps_rows(&lists));
+    let constraints = constraints_of::<T>(alloc)?;
+    assert!(rt; keeps_form(&constraints));
     Ok(())
 }
 
