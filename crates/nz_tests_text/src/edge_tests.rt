@@ -64,25 +64,33 @@ fn one_file(alloc: Global, name: &str, content: &[u8]) -> Result<Vec<(String, By
     Ok(files)
 }
 
+fn folder_answers(alloc: Global) -> Result<bool, Fail> {
+    let files = one_file(alloc, "p.in", b"amb_space 2")?;
+    let mut folder = MemFolder::new(alloc, files, Vec::new(alloc))?;
+    let load = folder.load(alloc, "p.in", 2);
+    let is_loaded = given(&load) == b"amb".as_slice();
+    let is_stored = folder.store("p.out", b"text") == Stored::Done;
+    Ok(is_loaded && is_stored && folder.file("p.out") == Some(b"text".as_slice()))
+}
+
+fn sink_answers(alloc: Global) -> Result<bool, Fail> {
+    let mut sink = MemSink::new(alloc, 5, Vec::new(alloc))?;
+    let is_put = put_all(&mut sink, b"done\n");
+    Ok(is_put && sink.bytes() == b"done\n".as_slice())
+}
+
+fn watch_answers(alloc: Global) -> Result<bool, Fail> {
+    let mut watch = MemWatch::new(alloc, 1, Some(1))?;
+    let goes_on = watch.stage(2, 3);
+    Ok(!goes_on && watch.pair(0) == Some((2, 3)))
+}
+
 // No clause says that memory is left: each call in memory succeeds once.
 #[test]
 fn answers_in_memory(rt: HostRuntime) -> Result<(), Fail> {
-    let alloc = rt.alloc();
-    let mut folder = MemFolder::new(
-        alloc,
-        one_file(alloc, "p.in", b"amb_space 2")?,
-        Vec::new(alloc),
-    )?;
-    let load = folder.load(alloc, "p.in", 2);
-    assert_eq!(rt; given(&load), b"amb".as_slice());
-    assert_eq!(rt; folder.store("p.out", b"text"), Stored::Done);
-    assert!(rt; folder.file("p.out") == Some(b"text".as_slice()));
-    let mut sink = MemSink::new(alloc, 5, Vec::new(alloc))?;
-    assert!(rt; put_all(&mut sink, b"done\n"));
-    assert_eq!(rt; sink.bytes(), b"done\n".as_slice());
-    let mut watch = MemWatch::new(alloc, 1, Some(1))?;
-    assert!(rt; !watch.stage(2, 3));
-    assert_eq!(rt; watch.pair(0), Some((2, 3)));
+    assert!(rt; folder_answers(rt.alloc())?);
+    assert!(rt; sink_answers(rt.alloc())?);
+    assert!(rt; watch_answers(rt.alloc())?);
     Ok(())
 }
 

@@ -61,35 +61,52 @@ fn put_goals(text: &mut String, goals: GoalSet) -> Result<(), Fail> {
     Ok(())
 }
 
-fn shown(alloc: Global, system: &System) -> Result<String, Fail> {
-    let mut text = format!(in alloc; "width {}", system.width)?;
+fn put_rules(text: &mut String, system: &System) -> Result<(), Fail> {
     text.push_str(if system.level {
         " with level; eq"
     } else {
         "; eq"
     })?;
-    put_rows(&mut text, &system.eq)?;
+    put_rows(text, &system.eq)?;
     text.push_str("; cg")?;
-    put_congruences(&mut text, &system.cg)?;
+    put_congruences(text, &system.cg)?;
     text.push_str("; ge")?;
-    put_rows(&mut text, &system.ge)?;
-    text.push_str("; gens")?;
-    put_some(&mut text, &system.gens)?;
-    text.push_str("; lat")?;
-    put_some(&mut text, &system.lat)?;
-    text.push_str("; grading")?;
-    match &system.grading {
-        Some(grading) => put_row(&mut text, grading)?,
-        None => text.push_str(" none")?,
+    put_rows(text, &system.ge)
+}
+
+fn put_grading(text: &mut String, grading: &Option<Row<i128>>) -> Result<(), Fail> {
+    match grading {
+        Some(grading) => put_row(text, grading),
+        None => Ok(text.push_str(" none")?),
     }
+}
+
+fn put_given(text: &mut String, system: &System) -> Result<(), Fail> {
+    text.push_str("; gens")?;
+    put_some(text, &system.gens)?;
+    text.push_str("; lat")?;
+    put_some(text, &system.lat)?;
+    text.push_str("; grading")?;
+    put_grading(text, &system.grading)
+}
+
+fn put_asked(text: &mut String, system: &System) -> Result<(), Fail> {
     text.push_str("; asked")?;
-    put_some(&mut text, &system.asked)?;
+    put_some(text, &system.asked)?;
     text.push_str(";")?;
-    put_goals(&mut text, system.goals)?;
+    put_goals(text, system.goals)?;
     text.push_str(match system.mode {
         Mode::Primal => " primal",
         Mode::Dual => " dual",
     })?;
+    Ok(())
+}
+
+fn shown(alloc: Global, system: &System) -> Result<String, Fail> {
+    let mut text = format!(in alloc; "width {}", system.width)?;
+    put_rules(&mut text, system)?;
+    put_given(&mut text, system)?;
+    put_asked(&mut text, system)?;
     Ok(text)
 }
 
