@@ -66,6 +66,14 @@ struct Ran {
 }
 
 // The words stand behind one another, with a space between two.
+fn words_of(alloc: Global, line: &str) -> Result<Vec<String>, Fail> {
+    let mut words = Vec::new(alloc);
+    for part in line.split(' ') {
+        words.push(String::from_str(alloc, part)?)?;
+    }
+    Ok(words)
+}
+
 fn run_on(
     alloc: Global,
     line: &str,
@@ -82,10 +90,7 @@ fn run_on(
     let mut console = MemSink::new(alloc, 100, failing(alloc, console_fails)?)?;
     let watch = MemWatch::new(alloc, 10, stop_at(passed))?;
     let mut watch: Box<dyn Watch> = Box::new(alloc, watch)?;
-    let mut words = Vec::new(alloc);
-    for part in line.split(' ') {
-        words.push(String::from_str(alloc, part)?)?;
-    }
+    let words = words_of(alloc, line)?;
     let status = run(alloc, &words, &mut folder, &mut console, &mut watch);
     Ok(Ran {
         folder,
@@ -93,6 +98,10 @@ fn run_on(
         told: told_text(alloc, &watch)?,
         code: status.code(),
     })
+}
+
+fn ended(ran: &Ran, code: u8, line: &[u8], stored: Option<&[u8]>) -> bool {
+    ran.code == code && ran.console.bytes() == line && ran.folder.file("p.out") == stored
 }
 
 #[test]
@@ -256,9 +265,7 @@ fn statuses(rt: HostRuntime) -> Result<(), Fail> {
         ),
     ] {
         let ran = run_on(rt.alloc(), words, input, folder_fails, console_fails, None)?;
-        assert_eq!(rt; ran.code, code);
-        assert_eq!(rt; ran.console.bytes(), line);
-        assert!(rt; ran.folder.file("p.out") == stored);
+        assert!(rt; ended(&ran, code, line, stored));
     }
     Ok(())
 }
@@ -274,6 +281,10 @@ const CONE: &[u8] =
 
 const CONE_TEXT: &[u8] =
     b"amb_space 2\nhomogeneous\n\n4 Hilbert basis elements:\n1 1\n1 2\n1 3\n2 1\n\n2 extreme rays:\n1 3\n2 1\n\n2 support hyperplanes:\n-1  2\n 3 -1\n\n0 equations:\n\n2 extreme generators:\n1 3\n2 1\n\n1 simplices:\n1 2\n";
+
+fn gives(ran: &Ran, line: &[u8], stored: Option<&[u8]>, told: &str) -> bool {
+    ran.console.bytes() == line && ran.folder.file("p.out") == stored && ran.told.as_str() == told
+}
 
 // What each file gives: the line, what is stored, and what the watch was told.
 #[test]
@@ -457,9 +468,7 @@ fn worked_files(rt: HostRuntime) -> Result<(), Fail> {
         ),
     ] {
         let ran = run_on(rt.alloc(), words, Some(input), 0, 0, passed)?;
-        assert_eq!(rt; ran.console.bytes(), line);
-        assert!(rt; ran.folder.file("p.out") == stored);
-        assert_eq!(rt; ran.told.as_str(), told);
+        assert!(rt; gives(&ran, line, stored, told));
     }
     Ok(())
 }
@@ -523,8 +532,7 @@ fn long_lists(rt: HostRuntime) -> Result<(), Fail> {
         (b"amb_space 64\n".as_slice(), units.as_str()),
     ] {
         let ran = run_on(rt.alloc(), "p", Some(input), 0, 0, None)?;
-        assert_eq!(rt; ran.console.bytes(), b"done\n".as_slice());
-        assert!(rt; ran.folder.file("p.out") == Some(expected.as_bytes()));
+        assert!(rt; ended(&ran, 0, b"done\n", Some(expected.as_bytes())));
     }
     Ok(())
 }
@@ -537,18 +545,23 @@ fn spaces(alloc: Global, count: u32) -> Result<Vec<u8>, Fail> {
     Ok(bytes)
 }
 
+// What so many spaces give.
+fn fails(alloc: Global, count: u32, code: u8, line: &[u8]) -> Result<bool, Fail> {
+    let bytes = spaces(alloc, count)?;
+    let ran = run_on(alloc, "p", Some(bytes.as_slice()), 0, 0, None)?;
+    Ok(ended(&ran, code, line, None))
+}
+
 #[test]
 fn long_inputs(rt: HostRuntime) -> Result<(), Fail> {
-    let bytes = spaces(rt.alloc(), 16_777_217)?;
-    let long = run_on(rt.alloc(), "p", Some(bytes.as_slice()), 0, 0, None)?;
-    assert_eq!(rt; long.code, 5);
-    assert_eq!(rt; long.console.bytes(), b"input too long\n".as_slice());
-    let bytes = spaces(rt.alloc(), 16_777_216)?;
-    let longest = run_on(rt.alloc(), "p", Some(bytes.as_slice()), 0, 0, None)?;
-    assert_eq!(rt; longest.code, 6);
-    assert_eq!(rt;
-        longest.console.bytes(),
-        b"line 1 column 16777217: NoAmb\n".as_slice()
+    assert!(rt; fails(rt.alloc(), 16_777_217, 5, b"input too long\n")?);
+    assert!(rt;
+        fails(
+            rt.alloc(),
+            16_777_216,
+            6,
+            b"line 1 column 16777217: NoAmb\n"
+        )?
     );
     Ok(())
 }
