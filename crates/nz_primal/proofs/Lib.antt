@@ -11,3 +11,6 @@ pub mod GeneratorLemmas
 mod CandidateLemmas
 pub mod ElementLemmas
 pub mod RunLemmas
+mod NumberCauses
+mod FaceMoves
+mod RangeLemmas

@@ -1,5 +1,5 @@
 -- What the parts of the primal run answer.
-use Rattle.std.specs.Prelude.{◌≡◌, ◌↔◌, ◌⊎◌, ℕ, zero, suc, ◌+◌, ◌-◌, ◌<◌, max, List, ◌++◌, length, map, pos, Contains}
+use Rattle.std.specs.Prelude.{◌≡◌, ◌↔◌, ◌⊎◌, ℕ, zero, suc, ◌+◌, ◌-◌, ◌<◌, max, ℤ, List, [], ◌++◌, length, map, get_or, unsigned_abs, pos, Contains}
 use Rattle.std.specs.List.{AllByRecursion as Each, AllZip}
 use Rattle.nz_spec.specs.Vectors.{Vector, dot, values_at, combination, HasWidth, IsZero}
 use Rattle.nz_spec.specs.Sums.{IsInCone, HasRank}
@@ -16,8 +16,16 @@ use Rattle.nz_vec.specs.declared.answers.Num.TheVariants as num
 use Rattle.nz_vec.specs.declared.answers.Work.{Work}
 use Rattle.nz_vec.specs.declared.answers.Work.TheVariants.{Range, TooMany, Stopped, NoMemory}
 use Rattle.nz_facets.specs.Rays.{AreRaysOnce}
+use Rattle.nz_pointed.specs.Pointed.{IsTooLarge}
+use Rattle.nz_reducer.specs.Reducers.{HasValueOutside}
 use Rattle.nz_primal.specs.Lists.{AreGenerators}
 use Rattle.nz_primal.specs.Second.{VanishesOn, IsFaceBase, HaveCoordinates}
+use Rattle.nz_vec.specs.Sums.{SumsFit}
+use Rattle.nz_sweep.specs.Bases.{ValueSumsFit, CombinationSumsFit}
+use Rattle.nz_classes.specs.Walks as walks
+use Rattle.nz_sweep.specs.Numbers.{SomeNumberLarge, IsEquationNumber, IsCoordinateNumber}
+use Rattle.nz_sweep.specs.Rounds.{IsEquationMove}
+use Rattle.nz_measures.specs.Sweeps.{Sweeps, IsMidway, whole_base}
 
 -- a base for second coordinates, the rays in them, and the rows in them
 pub record IsSecond (w : ℕ) (rows rays : List Vector) (base : Base) (coordinates second_rows : List Vector) : Type 0 where
@@ -107,3 +115,77 @@ IsLastRefusal (Range number) told passed result = result ≡ Range (max told pas
 IsLastRefusal TooMany told passed result = result ≡ TooMany
 IsLastRefusal (Stopped stage) told passed result = result ≡ Stopped stage
 IsLastRefusal NoMemory told passed result = result ≡ NoMemory
+
+-- the row has, at one of these vectors, a product or a sum of the first products that is no value
+pub record LacksValue (fits : ℤ → Type 0) (row : Vector) (vs : List Vector) : Type 0 where
+  pub vector : Vector
+  pub has : Contains vs vector
+  pub outside : ¬ SumsFit fits (pos 0) row vector
+
+-- the base is cut by the row where that is 0 at all rays, and else stays
+abbrev pub MoveOn : List Vector → Vector → Base → Base → Type 0
+MoveOn rays row before after = (VanishesOn rays row × IsEquationMove row before after) ⊎ ((¬ VanishesOn rays row) × (after ≡ before))
+
+-- the row has no value at a ray, or the cut of the base by it forms a number above the bound
+abbrev pub IsCutCause : ℤ → (ℤ → Type 0) → Vector → List Vector → Base → Type 0
+IsCutCause h fits row rays before = LacksValue fits row rays ⊎ (VanishesOn rays row × SomeNumberLarge h (IsEquationNumber row before))
+
+-- so it is of one of the rows, after the cuts by those before it
+pub record IsFaceCause (h : ℤ) (fits : ℤ → Type 0) (w : ℕ) (rows rays : List Vector) : Type 0 where
+  pub row : Vector
+  pub moment : Base
+  pub midway : IsMidway (MoveOn rays) rows (whole_base w) row moment
+  pub cause : IsCutCause h fits row rays moment
+
+-- the coordinates of one of the vectors form a number above the bound
+pub record LacksCoordinates (h : ℤ) (b : Base) (vs : List Vector) : Type 0 where
+  pub vector : Vector
+  pub has : Contains vs vector
+  pub large : SomeNumberLarge h (IsCoordinateNumber b vector)
+
+-- one of the forms cannot be pulled to the base
+pub record LacksPull (fits : ℤ → Type 0) (b : Base) (fs : List Vector) : Type 0 where
+  pub form : Vector
+  pub has : Contains fs form
+  pub outside : ¬ ValueSumsFit fits form b.vectors
+
+-- why there are no second coordinates: the base of the face, the coordinates of a ray in it, or a row in it
+pub data IsSecondCause (h : ℤ) (fits : ℤ → Type 0) (w : ℕ) (rows rays : List Vector) : Type 0 where
+  of_face : IsFaceCause h fits w rows rays → IsSecondCause h fits w rows rays
+  of_coordinates : {b : Base} → Sweeps (MoveOn rays) rows (whole_base w) b → LacksCoordinates h b rays → IsSecondCause h fits w rows rays
+  of_pull : {b : Base} → Sweeps (MoveOn rays) rows (whole_base w) b → LacksPull fits b rows → IsSecondCause h fits w rows rays
+
+-- why there are no extreme generators: a number of the rows is too large, or a form of the order has no value at an extreme ray
+pub data IsGeneratorCause (h : ℤ) (fits : ℤ → Type 0) (w : ℕ) (rows order : List Vector) : Type 0 where
+  of_rows : IsTooLarge h w rows → IsGeneratorCause h fits w rows order
+  of_order : {rays : List Vector} → AreRaysOnce w rows rays → HasValueOutside fits order rays → IsGeneratorCause h fits w rows order
+
+-- why nothing is settled: there are no extreme generators, or no second coordinates of them
+pub data IsSettleCause (h : ℤ) (fits : ℤ → Type 0) (w : ℕ) (rows order : List Vector) : Type 0 where
+  of_generators : IsGeneratorCause h fits w rows order → IsSettleCause h fits w rows order
+  of_second : {extreme : List Vector} → AreGenerators w rows order extreme → AreRaysOnce w rows extreme → IsSecondCause h fits w rows extreme → IsSettleCause h fits w rows order
+
+-- where the refusal is Range
+abbrev pub WhereRange : Type 0 → Work → Type 0
+WhereRange P (Range told) = P
+WhereRange P TooMany = Unit {0}
+WhereRange P (Stopped stage) = Unit {0}
+WhereRange P NoMemory = Unit {0}
+
+-- a number of the walk of one of the simplices is above the bound
+pub record SomeWalkLarge (bound : ℕ) (rays : List Vector) (simplices : List (List ℕ)) (forms : List (List Vector)) : Type 0 where
+  pub place : ℕ
+  pub within : place < length simplices
+  pub large : walks.IsTooLarge bound (vectors_at rays (get_or simplices place [])) (get_or forms place [])
+
+-- one of the vectors cannot be brought back from the coordinates of the base
+pub record LacksVector (fits : ℤ → Type 0) (b : Base) (cs : List Vector) : Type 0 where
+  pub coordinates : Vector
+  pub has : Contains cs coordinates
+  pub outside : ¬ CombinationSumsFit fits b.width coordinates b.vectors
+
+-- why there are no elements: a walk, a row at a candidate, or a candidate that cannot be brought back
+pub data IsElementCause (h : ℤ) (fits : ℤ → Type 0) (b : Base) (rays rows : List Vector) (simplices : List (List ℕ)) (forms : List (List Vector)) : Type 0 where
+  of_walk : SomeWalkLarge (unsigned_abs h) rays simplices forms → IsElementCause h fits b rays rows simplices forms
+  of_values : {list : List Vector} → AreCandidates rays simplices list → HasValueOutside fits rows list → IsElementCause h fits b rays rows simplices forms
+  of_back : {list kept : List Vector} → AreCandidates rays simplices list → Each (Contains list) kept → LacksVector fits b kept → IsElementCause h fits b rays rows simplices forms

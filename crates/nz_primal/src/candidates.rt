@@ -1,10 +1,10 @@
 // The candidates that a cover gives: its rays, and the points of its simplices.
-ghost use Rattle.std.specs.Prelude.{◌≡◌, ◌<◌, ◌++◌, length, get_or, IfOk, MatchResult};
+ghost use Rattle.std.specs.Prelude.{◌≡◌, ◌<◌, ◌++◌, length, get_or, unsigned_abs, IfOk, IfErr, MatchResult};
 ghost use Rattle.std.specs.List.{AllByRecursion as Each};
 ghost use Rattle.nz_spec.specs.Covers.{vectors_at};
 ghost use Rattle.nz_classes.specs.Classes.{IsPoint};
-ghost use Rattle.nz_classes.specs.Walks.{IsFullSimplex};
-ghost use Rattle.nz_primal.specs.Parts.{AreFullSimplices, AreCandidates, ArePointsOf, IsWalkRefusal, IsOneWalkRefusal};
+ghost use Rattle.nz_classes.specs.Walks.{IsFullSimplex, IsTooLarge};
+ghost use Rattle.nz_primal.specs.Parts.{AreFullSimplices, AreCandidates, ArePointsOf, IsWalkRefusal, IsOneWalkRefusal, WhereRange, SomeWalkLarge};
 
 use crate::generators::copied;
 use nz_classes::walk;
@@ -20,7 +20,8 @@ pub(crate) fn candidates<T: Scalar>(
     limit: u32,
 ) -> Result<Rows<T>, Work>
     requires { AreFullSimplices rays.now cover.now.simplices cover.now.forms }
-    ensures { MatchResult result (AreCandidates rays.now cover.now.simplices) (IsWalkRefusal limit rays.now cover.now.simplices) }
+    ensures points { MatchResult result (AreCandidates rays.now cover.now.simplices) (IsWalkRefusal limit rays.now cover.now.simplices) }
+    ensures cause { IfErr result (WhereRange (SomeWalkLarge (unsigned_abs T.HALF) rays.now cover.now.simplices cover.now.forms)) }
 {
     let mut list = match copied(alloc, rays) {
         Ok(list) => list,
@@ -50,7 +51,8 @@ fn walked<T: Scalar>(
 ) -> Result<Rows<T>, Work>
     requires within { Each (λ p. p < length rays.now) places.now }
     requires full { IsFullSimplex (vectors_at rays.now places.now) forms.now }
-    ensures { MatchResult result (ArePointsOf rays.now places.now) (IsOneWalkRefusal limit rays.now places.now) }
+    ensures points { MatchResult result (ArePointsOf rays.now places.now) (IsOneWalkRefusal limit rays.now places.now) }
+    ensures cause { IfErr result (WhereRange (IsTooLarge (unsigned_abs T.HALF) (vectors_at rays.now places.now) forms.now)) }
 {
     let sides = match rows_at(alloc, rays, places) {
         Ok(sides) => sides,

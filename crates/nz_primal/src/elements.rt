@@ -1,5 +1,5 @@
 // The irreducible elements, from a cover in second coordinates.
-ghost use Rattle.std.specs.Prelude.{◌≡◌, ◌≤◌, None, ℕ, ℤ, List, map, length, IfOk, MatchResult};
+ghost use Rattle.std.specs.Prelude.{◌≡◌, ◌≤◌, None, ℕ, ℤ, List, map, length, IfOk, IfErr, MatchResult};
 ghost use Rattle.std.specs.List.{AllByRecursion as Each};
 ghost use Rattle.std.specs.List.Sorted.{IsPermutation};
 ghost use Rattle.nz_spec.specs.Vectors.{HasWidth, combination};
@@ -9,7 +9,7 @@ ghost use Rattle.nz_linear.specs.Cones.{IsInRows};
 ghost use Rattle.nz_degree.specs.Degrees.{IsInOrder};
 ghost use Rattle.nz_sweep.specs.Bases.{IsBase};
 ghost use Rattle.nz_cover.specs.Placing.{IsPlaced};
-ghost use Rattle.nz_primal.specs.Parts.{IsSecondCone, IsVectorOf, IsWalkRefusal};
+ghost use Rattle.nz_primal.specs.Parts.{IsSecondCone, IsVectorOf, IsWalkRefusal, IsFirstRefusal, WhereRange, LacksVector, IsElementCause};
 
 use crate::candidates::candidates;
 use crate::keys::ungraded;
@@ -34,6 +34,7 @@ pub(crate) fn elements<T: Scalar>(
     requires placed { IsPlaced (length second.now.base.vectors) second.now.rays cover.now.simplices cover.now.forms }
     ensures lists { MatchResult result (IsListOf IsLexBefore (IsVectorOf second.now.base (IsIrreducible (IsInRows (length second.now.base.vectors) second.now.rows)))) (IsWalkRefusal limit second.now.rays cover.now.simplices) }
     ensures within { IfOk result (λ list. length list ≤ limit) }
+    ensures cause { IfErr result (WhereRange (IsElementCause T.HALF T.fits second.now.base second.now.rays second.now.rows cover.now.simplices cover.now.forms)) }
 {
     let list = match candidates(alloc, &second.rays, cover, limit) {
         Ok(list) => list,
@@ -54,7 +55,8 @@ pub(crate) fn elements<T: Scalar>(
 
 // A refusal of one reckoning as that of the walks.
 fn walk_refusal(refusal: Num) -> Work
-    ensures { (limit : ℕ) (rays : List (List ℤ)) (simplices : List (List ℕ)) → IsWalkRefusal limit rays simplices result }
+    ensures refused { (limit : ℕ) (rays : List (List ℤ)) (simplices : List (List ℕ)) → IsWalkRefusal limit rays simplices result }
+    ensures same { IsFirstRefusal refusal 0 result }
 {
     match refusal {
         Num::Range => Work::Range { told: 0 },
@@ -71,6 +73,7 @@ fn brought_back<T: Scalar>(
     requires widths { Each (HasWidth (length base.now.vectors)) coordinates.now }
     ensures same { IfOk result (IsPermutation (map (λ c. combination base.now.width c base.now.vectors) coordinates.now)) }
     ensures order { IfOk result (IsInOrder None) }
+    ensures cause { IfErr result (λ e. e ≡ Num.Range → LacksVector T.fits base.now coordinates.now) }
 {
     let mut list = match vectors(alloc, base, coordinates) {
         Ok(list) => list,
@@ -85,7 +88,8 @@ fn brought_back<T: Scalar>(
 // The vectors with these coordinates.
 fn vectors<T: Scalar>(alloc: Global, base: &Basis<T>, coordinates: &Rows<T>) -> Result<Rows<T>, Num>
     requires { Each (HasWidth (length base.now.vectors)) coordinates.now }
-    ensures { IfOk result (λ r. r ≡ map (λ c. combination base.now.width c base.now.vectors) coordinates.now) }
+    ensures back { IfOk result (λ r. r ≡ map (λ c. combination base.now.width c base.now.vectors) coordinates.now) }
+    ensures cause { IfErr result (λ e. e ≡ Num.Range → LacksVector T.fits base.now coordinates.now) }
 {
     let mut list = Rows::new(alloc);
     for place in 0..coordinates.len() {

@@ -1,10 +1,11 @@
 // The extreme generators of a pointed cone, in the order of the values of forms.
-ghost use Rattle.std.specs.Prelude.{◌≡◌, Contains, IfOk, MatchBool, length};
+ghost use Rattle.std.specs.Prelude.{◌≡◌, Contains, IfOk, IfErr, MatchBool, length};
 ghost use Rattle.std.specs.List.{AllByRecursion as Each};
 ghost use Rattle.nz_spec.specs.Vectors.{HasWidth};
-ghost use Rattle.nz_pointed.specs.Pointed.{IsSimplexOf};
+ghost use Rattle.nz_pointed.specs.Pointed.{IsSimplexOf, IsTooLarge};
 ghost use Rattle.nz_facets.specs.Rays.{AreRaysOnce};
 ghost use Rattle.nz_primal.specs.Lists.{AreSeparating, AreGenerators};
+ghost use Rattle.nz_primal.specs.Parts.{IsGeneratorCause};
 
 use crate::keys::in_order;
 use nz_pointed::Simplex;
@@ -24,6 +25,7 @@ pub(crate) fn generators<T: Scalar>(
     requires order { AreSeparating (length simplex.now.places) order.now }
     ensures generators { IfOk result (λ r. AreGenerators (length simplex.now.places) rows.now order.now r) }
     ensures rays { IfOk result (λ r. AreRaysOnce (length simplex.now.places) rows.now r) }
+    ensures cause { IfErr result (λ e. e ≡ Num.Range → IsGeneratorCause T.HALF T.fits (length simplex.now.places) rows.now order.now) }
 {
     let rays = match extreme_rays(alloc, rows, simplex) {
         Ok(rays) => rays,
@@ -43,7 +45,8 @@ fn extreme_rays<T: Scalar>(
 ) -> Result<Rows<T>, Num>
     requires widths { Each (HasWidth (length simplex.now.places)) rows.now }
     requires simplex { IsSimplexOf (length simplex.now.places) rows.now simplex.now.places simplex.now.rays }
-    ensures { IfOk result (AreRaysOnce (length simplex.now.places) rows.now) }
+    ensures rays { IfOk result (AreRaysOnce (length simplex.now.places) rows.now) }
+    ensures cause { IfErr result (λ e. e ≡ Num.Range → IsTooLarge T.HALF (length simplex.now.places) rows.now) }
 {
     let mut double = match Double::new(alloc, rows, simplex) {
         Ok(double) => double,

@@ -1,5 +1,6 @@
 // Vectors in the order of the values of forms: before its entries each gets its values.
-ghost use Rattle.std.specs.Prelude.{◌≡◌, ◌≢◌, ◌++◌, map, drop, IfOk, length, Contains, None, ◌+◌};
+ghost use Rattle.std.specs.Prelude.{◌≡◌, ◌≢◌, ◌++◌, ◌∷◌, [], map, drop, IfOk, IfErr, length, Contains, None, ◌+◌};
+ghost use Rattle.nz_reducer.specs.Reducers.{HasValueOutside};
 ghost use Rattle.std.specs.List.{AllByRecursion as Each};
 ghost use Rattle.nz_spec.specs.Vectors.{Vector, HasWidth, values_at};
 ghost use Rattle.nz_spec.specs.Order.{Pairwise, IsListOf};
@@ -20,7 +21,8 @@ pub(crate) fn in_order<T: Scalar>(
     requires widths { Each (HasWidth width) vectors.now }
     requires different { Pairwise ◌≢◌ vectors.now }
     requires order { AreSeparating width order.now }
-    ensures { IfOk result (IsListOf (IsBeforeBy order.now) (Contains vectors.now)) }
+    ensures sorted { IfOk result (IsListOf (IsBeforeBy order.now) (Contains vectors.now)) }
+    ensures cause { IfErr result (λ e. e ≡ Num.Range → HasValueOutside T.fits order.now vectors.now) }
 {
     let mut keys = match all_keyed(alloc, vectors, width, order) {
         Ok(keys) => keys,
@@ -52,7 +54,8 @@ fn all_keyed<T: Scalar>(
 ) -> Result<Rows<T>, Num>
     requires widths { Each (HasWidth width) vectors.now }
     requires order { Each (HasWidth width) order.now }
-    ensures { IfOk result (λ r. r ≡ map (keyed order.now) vectors.now) }
+    ensures keyed { IfOk result (λ r. r ≡ map (keyed order.now) vectors.now) }
+    ensures cause { IfErr result (λ e. e ≡ Num.Range → HasValueOutside T.fits order.now vectors.now) }
 {
     let mut keys = Rows::new(alloc);
     for place in 0..vectors.len() {
@@ -71,7 +74,8 @@ fn all_keyed<T: Scalar>(
 // The values of the forms at the vector, and then its entries.
 fn key_of<T: Scalar>(alloc: Global, vector: &Row<T>, order: &Rows<T>) -> Result<Row<T>, Num>
     requires { Each (HasWidth (length vector.now)) order.now }
-    ensures { IfOk result (λ r. r ≡ keyed order.now vector.now) }
+    ensures key { IfOk result (λ r. r ≡ keyed order.now vector.now) }
+    ensures cause { IfErr result (λ e. e ≡ Num.Range → HasValueOutside T.fits order.now (vector.now ∷ [])) }
 {
     let values = match values_of(alloc, vector, order) {
         Ok(values) => values,
@@ -86,7 +90,8 @@ fn key_of<T: Scalar>(alloc: Global, vector: &Row<T>, order: &Rows<T>) -> Result<
 // The values of the forms at the vector.
 fn values_of<T: Scalar>(alloc: Global, vector: &Row<T>, order: &Rows<T>) -> Result<Vec<T>, Num>
     requires { Each (HasWidth (length vector.now)) order.now }
-    ensures { IfOk result (λ v. map T.integer v.items ≡ values_at order.now vector.now) }
+    ensures values { IfOk result (λ v. map T.integer v.items ≡ values_at order.now vector.now) }
+    ensures cause { IfErr result (λ e. e ≡ Num.Range → HasValueOutside T.fits order.now (vector.now ∷ [])) }
 {
     let mut values = Vec::new(alloc);
     for place in 0..order.len() {

@@ -1,12 +1,14 @@
 // The primal run.
-ghost use Rattle.std.specs.Prelude.{◌≡◌, ◌≤◌, length, MatchResult, IfOk};
+ghost use Rattle.std.specs.Prelude.{◌≡◌, ◌≤◌, length, MatchResult, IfOk, IfErr};
 ghost use Rattle.std.specs.List.{AllByRecursion as Each};
 ghost use Rattle.nz_spec.specs.Vectors.{HasWidth};
 ghost use Rattle.nz_spec.specs.Stages.{ArePlacings};
 ghost use Rattle.nz_edge.specs.Telling.{HasPassedAll};
 ghost use Rattle.nz_pointed.specs.Pointed.{IsSimplexOf};
 ghost use Rattle.nz_primal.specs.Lists.{AreSeparating, ArePrimalLists, IsPrimalRefusal};
-ghost use Rattle.nz_primal.specs.Parts.{IsSettled, stage_count, IsFirstRefusal, IsLastRefusal};
+ghost use Rattle.nz_measures.specs.Sweeps.{Sweeps, whole_base};
+ghost use Rattle.nz_measures.specs.Reaches.{HasPrimalAbove};
+ghost use Rattle.nz_primal.specs.Parts.{WhereRange, IsSettled, MoveOn, IsSettleCause, stage_count, IsFirstRefusal, IsLastRefusal};
 
 use crate::elements::elements;
 use crate::generators::generators;
@@ -54,6 +56,7 @@ pub fn primal<T: Scalar>(
     requires order { AreSeparating (length simplex.now.places) order.now }
     ensures lists { MatchResult result (λ p. ArePrimalLists (length simplex.now.places) rows.now order.now p.list p.extreme p.cover.simplices p.cover.forms × HasPassedAll (ArePlacings (length simplex.now.places) p.extreme) told_before (record { told = told watch.old; patience = patience watch.old; stops = stops watch.old }) (record { told = told watch.new; patience = patience watch.new; stops = stops watch.new })) (λ e. IsPrimalRefusal (length simplex.now.places) rows.now order.now limit told_before (record { told = told watch.old; patience = patience watch.old; stops = stops watch.old }) (record { told = told watch.new; patience = patience watch.new; stops = stops watch.new }) e) }
     ensures within { IfOk result (λ p. length p.list ≤ limit) }
+    ensures range { IfErr result (WhereRange (HasPrimalAbove T.HALF (length simplex.now.places) rows.now order.now)) }
 {
     let (extreme, second) = match settled(alloc, rows, simplex, order) {
         Ok(settled) => settled,
@@ -83,7 +86,9 @@ fn settled<T: Scalar>(
     requires widths { Each (HasWidth (length simplex.now.places)) rows.now }
     requires simplex { IsSimplexOf (length simplex.now.places) rows.now simplex.now.places simplex.now.rays }
     requires order { AreSeparating (length simplex.now.places) order.now }
-    ensures { IfOk result (λ p. IsSettled (length simplex.now.places) rows.now order.now p.0 p.1.base p.1.rays p.1.rows) }
+    ensures found { IfOk result (λ p. IsSettled (length simplex.now.places) rows.now order.now p.0 p.1.base p.1.rays p.1.rows) }
+    ensures sweeps { IfOk result (λ p. Sweeps (MoveOn p.0) rows.now (whole_base (length simplex.now.places)) p.1.base) }
+    ensures cause { IfErr result (λ e. e ≡ Num.Range → IsSettleCause T.HALF T.fits (length simplex.now.places) rows.now order.now) }
 {
     let extreme = match generators(alloc, rows, simplex, order) {
         Ok(extreme) => extreme,

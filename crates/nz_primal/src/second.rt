@@ -1,11 +1,13 @@
 // Second coordinates: those in a base of the vectors at which the rows are 0 that are 0 at all rays.
-ghost use Rattle.std.specs.Prelude.{◌≡◌, map, length, IfOk, IfSome, OnOk, MatchBool};
+ghost use Rattle.std.specs.Prelude.{◌≡◌, map, length, IfOk, IfErr, OnOk, MatchBool, MatchOption};
 ghost use Rattle.std.specs.List.{AllByRecursion as Each};
 ghost use Rattle.nz_spec.specs.Vectors.{HasWidth, combination};
 ghost use Rattle.nz_spec.specs.Sums.{IsInGroup};
 ghost use Rattle.nz_linear.specs.Coordinates.{in_coordinates};
 ghost use Rattle.nz_primal.specs.Second.{VanishesOn, IsFaceBase, HaveCoordinates};
-ghost use Rattle.nz_primal.specs.Parts.{IsSecond, IsCutAt};
+ghost use Rattle.nz_measures.specs.Sweeps.{Sweeps, whole_base};
+ghost use Rattle.nz_primal.specs.Parts.{IsSecond, IsCutAt, LacksValue, MoveOn, IsCutCause, IsFaceCause, LacksCoordinates, LacksPull, IsSecondCause};
+ghost use Rattle.nz_sweep.specs.Numbers.{SomeNumberLarge, IsCoordinateNumber};
 
 use nz_sweep::Basis;
 use nz_vec::{Num, Row, Rows, Scalar};
@@ -29,7 +31,9 @@ pub(crate) fn in_second<T: Scalar>(
 ) -> Result<Second<T>, Num>
     requires rows { Each (HasWidth width) rows.now }
     requires rays { Each (HasWidth width) rays.now }
-    ensures { IfOk result (λ s. IsSecond width rows.now rays.now s.base s.rays s.rows) }
+    ensures found { IfOk result (λ s. IsSecond width rows.now rays.now s.base s.rays s.rows) }
+    ensures sweeps { IfOk result (λ s. Sweeps (MoveOn rays.now) rows.now (whole_base width) s.base) }
+    ensures cause { IfErr result (λ e. e ≡ Num.Range → IsSecondCause T.HALF T.fits width rows.now rays.now) }
 {
     let base = match face(alloc, rows, width, rays) {
         Ok(base) => base,
@@ -58,7 +62,9 @@ fn face<T: Scalar>(
 ) -> Result<Basis<T>, Num>
     requires rows { Each (HasWidth width) rows.now }
     requires rays { Each (HasWidth width) rays.now }
-    ensures { IfOk result (λ b. (b.width ≡ width) × IsFaceBase width rows.now rays.now b.vectors) }
+    ensures base { IfOk result (λ b. (b.width ≡ width) × IsFaceBase width rows.now rays.now b.vectors) }
+    ensures sweeps { IfOk result (λ b. Sweeps (MoveOn rays.now) rows.now (whole_base width) b) }
+    ensures cause { IfErr result (λ e. e ≡ Num.Range → IsFaceCause T.HALF T.fits width rows.now rays.now) }
 {
     let mut base = match Basis::whole(alloc, width) {
         Ok(base) => base,
@@ -82,7 +88,9 @@ fn cut_at<T: Scalar>(
 ) -> Result<(), Num>
     requires row { length row.now ≡ base.old.width }
     requires rays { Each (HasWidth (base.old.width)) rays.now }
-    ensures { OnOk result (IsCutAt row.now rays.now base.old base.new) }
+    ensures cut { OnOk result (IsCutAt row.now rays.now base.old base.new) }
+    ensures moves { OnOk result (MoveOn rays.now row.now base.old base.new) }
+    ensures cause { IfErr result (λ e. e ≡ Num.Range → IsCutCause T.HALF T.fits row.now rays.now base.old) }
 {
     match vanishes(row, rays) {
         Some(true) => base.cut_equation(alloc, row),
@@ -94,7 +102,7 @@ fn cut_at<T: Scalar>(
 // Whether the row is 0 at each ray. None where a value is no value of the type.
 fn vanishes<T: Scalar>(row: &Row<T>, rays: &Rows<T>) -> Option<bool>
     requires { Each (HasWidth (length row.now)) rays.now }
-    ensures { IfSome result (λ b. MatchBool b (VanishesOn rays.now row.now) (¬ VanishesOn rays.now row.now)) }
+    ensures { MatchOption result (LacksValue T.fits row.now rays.now) (λ b. MatchBool b (VanishesOn rays.now row.now) (¬ VanishesOn rays.now row.now)) }
 {
     let zero = T::of_i64(0);
     for place in 0..rays.len() {
@@ -118,7 +126,8 @@ fn all_coordinates<T: Scalar>(
 ) -> Result<Rows<T>, Num>
     requires widths { Each (HasWidth base.now.width) vectors.now }
     requires inside { Each (IsInGroup base.now.width base.now.vectors) vectors.now }
-    ensures { IfOk result (λ r. HaveCoordinates base.now.width base.now.vectors r vectors.now) }
+    ensures have { IfOk result (λ r. HaveCoordinates base.now.width base.now.vectors r vectors.now) }
+    ensures cause { IfErr result (λ e. e ≡ Num.Range → LacksCoordinates T.HALF base.now vectors.now) }
 {
     let mut list = Rows::new(alloc);
     for place in 0..vectors.len() {
@@ -138,7 +147,8 @@ fn all_coordinates<T: Scalar>(
 fn coordinates_of<T: Scalar>(alloc: Global, base: &Basis<T>, vector: &Row<T>) -> Result<Row<T>, Num>
     requires width { length vector.now ≡ base.now.width }
     requires inside { IsInGroup base.now.width base.now.vectors vector.now }
-    ensures { IfOk result (λ c. (length c ≡ length base.now.vectors) × (combination base.now.width c base.now.vectors ≡ vector.now)) }
+    ensures same { IfOk result (λ c. (length c ≡ length base.now.vectors) × (combination base.now.width c base.now.vectors ≡ vector.now)) }
+    ensures cause { IfErr result (λ e. e ≡ Num.Range → SomeNumberLarge T.HALF (IsCoordinateNumber base.now vector.now)) }
 {
     match base.coordinates(alloc, vector) {
         Ok(coordinates) => match coordinates {
@@ -152,7 +162,8 @@ fn coordinates_of<T: Scalar>(alloc: Global, base: &Basis<T>, vector: &Row<T>) ->
 // The rows in coordinates.
 fn all_pulled<T: Scalar>(alloc: Global, base: &Basis<T>, rows: &Rows<T>) -> Result<Rows<T>, Num>
     requires { Each (HasWidth base.now.width) rows.now }
-    ensures { IfOk result (λ r. r ≡ map (λ h. in_coordinates base.now.vectors h) rows.now) }
+    ensures pulled { IfOk result (λ r. r ≡ map (λ h. in_coordinates base.now.vectors h) rows.now) }
+    ensures cause { IfErr result (λ e. e ≡ Num.Range → LacksPull T.fits base.now rows.now) }
 {
     let mut list = Rows::new(alloc);
     for place in 0..rows.len() {
