@@ -1,6 +1,5 @@
 pub mod ListLemmas
 pub mod SignLemmas
-pub mod UnitLemmas
 pub mod StepLemmas
 pub mod AnswerLemmas
 pub mod RangeLemmas

@@ -4,6 +4,7 @@ use Rattle.std.specs.List.{AllByRecursion as Each, AllZip}
 use Rattle.std.proofs.lemmas.List.{take_more}
 use Rattle.nz_spec.specs.Vectors.{Vector}
 use Rattle.nz_spec.specs.Order.{Pairwise}
+use Rattle.nz_spec.proofs.ListLaws.{zip_push}
 use Rattle.nz_linear.proofs.Lists.{each_append}
 use Rattle.nz_linear.specs.DualPairs.{Pair, pair_of}
 use Rattle.nz_pointed.specs.Pointed.{paired}
@@ -75,12 +76,6 @@ take_whole (x ∷ xs) ys = ap (λ t. x ∷ t) (take_whole xs ys)
 pub length_joined : {A : Type 0} (x : A) (xs : List A) → length (xs ++ (x ∷ [])) ≡ length xs + 1
 length_joined x [] = refl
 length_joined x (y ∷ xs) = let r = length_joined x xs in omega (arith, r)
-
-zip_push : {A B : Type 0} (R : A → B → Type 0) (xs : List A) (ys : List B) (x : A) (y : B) → AllZip R xs ys → R x y → AllZip R (xs ++ (x ∷ [])) (ys ++ (y ∷ []))
-zip_push R [] [] x y z r = (r, tt)
-zip_push R [] (b ∷ ys) x y z r = absurd z
-zip_push R (a ∷ xs) [] x y z r = absurd z
-zip_push R (a ∷ xs) (b ∷ ys) x y z r = (z.0, zip_push R xs ys x y z.1 r)
 
 -- one more pair of two lists
 pub zip_more : {A B : Type 0} (R : A → B → Type 0) (xs : List A) (ys zs : List B) (i : ℕ) (x : A) (y : B) → i < length xs → x ≡ get_or xs i x → AllZip R (take i xs) ys → R x y → zs ≡ ys ++ (y ∷ []) → AllZip R (take (i + 1) xs) zs

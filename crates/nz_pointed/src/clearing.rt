@@ -5,8 +5,7 @@ ghost use Rattle.nz_spec.specs.Vectors.{dot, HasWidth};
 ghost use Rattle.nz_range.specs.Measures.{AreLargeFor};
 ghost use Rattle.nz_pointed.specs.Elimination.{IsCleared, IsFirstNonzero};
 
-use crate::signs::is_nonzero;
-use nz_vec::{Num, Row, Scalar};
+use nz_vec::{Num, Row, Scalar, is_nonzero};
 use std::alloc::Global;
 
 /// The place of the first row at which the form is not 0.

@@ -8,10 +8,9 @@ ghost use Rattle.nz_linear.specs.Echelon.{EndsAt};
 ghost use Rattle.nz_pointed.specs.Pointed.{IsAnswer, AreEquationsWith};
 
 use crate::clearing::{cleared_all, first_nonzero};
-use crate::signs::{is_nonzero, led, turned};
+use crate::signs::{led, turned};
 use crate::starting::{Equations, Pointed, Simplex};
-use crate::units::units;
-use nz_vec::{NoMemory, Num, Places, Row, Rows, Scalar};
+use nz_vec::{NoMemory, Num, Places, Row, Rows, Scalar, is_nonzero, units};
 use std::alloc::Global;
 
 /// What elimination holds after some rows: the places of the rows chosen, the vectors of these rows,

@@ -9,6 +9,6 @@ mod clearing;
 mod elimination;
 mod signs;
 mod starting;
-mod units;
 
+pub use signs::{leads_positive, opposite};
 pub use starting::{Equations, Pointed, Simplex, equations_of, start};

@@ -1,30 +1,17 @@
 // The two directions of a vector.
-ghost use Rattle.std.specs.Prelude.{◌≡◌, ◌≢◌, ◌⊎◌, pos, ◌<ℤ◌, ◌∷◌, [], IsTrue, MatchBool, MatchResult, ◌↔◌, length};
+ghost use Rattle.std.specs.Prelude.{◌≡◌, ◌≢◌, ◌⊎◌, pos, ◌<ℤ◌, ◌∷◌, [], MatchBool, MatchResult, length};
 ghost use Rattle.nz_spec.specs.Vectors.{dot, opposite, IsNonzero, LeadsPositive};
 ghost use Rattle.nz_range.specs.Measures.{measure, AreLargeFor};
 ghost use Rattle.nz_pointed.specs.Elimination.{IsTurned};
 
-use nz_vec::{Num, Row, Scalar};
+use nz_vec::{Num, Row, Scalar, is_nonzero, is_positive};
 use std::alloc::Global;
 
-fn opposite<T: Scalar>(alloc: Global, row: &Row<T>) -> Result<Row<T>, Num>
+/// The opposite vector. Range comes only where the vector has a measure above `HALF`.
+pub fn opposite<T: Scalar>(alloc: Global, row: &Row<T>) -> Result<Row<T>, Num>
     ensures { MatchResult result (λ r. r ≡ opposite row.now) (λ e. e ≡ Num.Range → T.HALF <ℤ pos (measure row.now)) }
 {
     Row::combine(alloc, T::of_i64(-1), row, T::of_i64(0), row)
-}
-
-/// Whether a value stands for more than 0.
-pub(crate) fn is_positive<T: Scalar>(value: T) -> bool
-    ensures { IsTrue result ↔ (pos 0 <ℤ T.integer value) }
-{
-    T::of_i64(0) < value
-}
-
-/// Whether a value stands for another number than 0.
-pub(crate) fn is_nonzero<T: Scalar>(value: T) -> bool
-    ensures { IsTrue result ↔ (T.integer value ≢ pos 0) }
-{
-    value != T::of_i64(0)
 }
 
 /// The row or its opposite, whichever has a positive value at the form.
@@ -44,8 +31,8 @@ pub(crate) fn turned<T: Scalar>(alloc: Global, form: &Row<T>, row: Row<T>) -> Re
     }
 }
 
-// Whether the first nonzero entry is positive.
-fn leads_positive<T: Scalar>(row: &Row<T>) -> bool
+/// Whether the first nonzero entry is positive.
+pub fn leads_positive<T: Scalar>(row: &Row<T>) -> bool
     requires { IsNonzero row.now }
     ensures { MatchBool result (LeadsPositive row.now) (LeadsPositive (opposite row.now)) }
 {

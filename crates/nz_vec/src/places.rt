@@ -1,4 +1,4 @@
-ghost use Rattle.std.specs.Prelude.{◌≡◌, ℕ, ◌<◌, ◌++◌, ◌∷◌, [], List, length, OnOk, OnErr, slice_index, slice_index_or};
+ghost use Rattle.std.specs.Prelude.{◌≡◌, ℕ, ◌<◌, ◌++◌, ◌∷◌, [], List, length, Contains, MatchBool, OnOk, OnErr, slice_index, slice_index_or};
 
 use crate::NoMemory;
 use smallvec::SmallVec;
@@ -49,6 +49,17 @@ impl Places {
         ensures { result ≡ slice_index self.now place }
     {
         self.places[place]
+    }
+
+    pub fn contains(&self, place: usize) -> bool
+        ensures { MatchBool result (Contains self.now place) (¬ Contains self.now place) }
+    {
+        for index in 0..self.len() {
+            if self.at(index) == place {
+                return true;
+            }
+        }
+        false
     }
 }
 

@@ -3,11 +3,11 @@ ghost use Rattle.std.specs.Prelude.{◌≡◌, ℕ, ◌<◌, IfOk};
 ghost use Rattle.nz_spec.specs.Vectors.{entry, unit_vectors};
 ghost use Rattle.nz_linear.specs.Echelon.{unit_at};
 
-use nz_vec::{NoMemory, Row, Scalar};
+use crate::{NoMemory, Row, Scalar};
 use std::alloc::Global;
 
-/// The unit vectors of this width.
-pub(crate) fn units<T: Scalar>(alloc: Global, width: usize) -> Result<Vec<Row<T>>, NoMemory>
+/// The unit vectors of this width, in the order of the places of their 1.
+pub fn units<T: Scalar>(alloc: Global, width: usize) -> Result<Vec<Row<T>>, NoMemory>
     ensures { IfOk result (λ v. v.items ≡ unit_vectors width) }
 {
     let mut units = match Vec::with_capacity(alloc, width) {
@@ -23,8 +23,8 @@ pub(crate) fn units<T: Scalar>(alloc: Global, width: usize) -> Result<Vec<Row<T>
     Ok(units)
 }
 
-// The vector that is 1 at this place and else 0.
-fn unit<T: Scalar>(alloc: Global, width: usize, place: usize) -> Result<Row<T>, NoMemory>
+/// The vector that is 1 at this place and else 0; the zero vector where the width has no such place.
+pub fn unit<T: Scalar>(alloc: Global, width: usize, place: usize) -> Result<Row<T>, NoMemory>
     ensures { IfOk result (λ u. u ≡ unit_at width place) }
 {
     let mut entries = match Vec::with_capacity(alloc, width) {

@@ -9,7 +9,7 @@ pub length-unit_vectors : (w : ℕ) → length (unit_vectors w) ≡ w
 length-unit_vectors zero = refl
 length-unit_vectors (suc w) = ap suc (length-map (unit_vectors w) (λ u. pos 0 ∷ u) ∙ length-unit_vectors w)
 
-unit_vector_at : (w i : ℕ) → i < w → get_or (unit_vectors w) i [] ≡ unit_at w i
+pub unit_vector_at : (w i : ℕ) → i < w → get_or (unit_vectors w) i [] ≡ unit_at w i
 unit_vector_at zero i l = absurd (omega arith)
 unit_vector_at (suc w) zero l = refl
 unit_vector_at (suc w) (suc i) l =

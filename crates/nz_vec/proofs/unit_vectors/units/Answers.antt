@@ -1,6 +1,6 @@
 use Rattle.std.proofs.Common.{◌+◌, ap, ◌∙◌, arith, ◌∷◌, [], ◌++◌, List, ℤ}
-use Rattle.nz_pointed.proofs.UnitLemmas.{unit_more, units_all}
-use Rattle.nz_pointed.proofs.units.units.Goals as goal
+use Rattle.nz_vec.proofs.UnitLemmas.{unit_more, units_all}
+use Rattle.nz_vec.proofs.unit_vectors.units.Goals as goal
 
 pub loop-place-preserved : goal.loop-place-preserved
 loop-place-preserved g c = (

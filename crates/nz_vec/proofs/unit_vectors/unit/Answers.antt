@@ -1,6 +1,6 @@
 use Rattle.std.proofs.Common.{◌+◌, ap, ◌∙◌, arith}
-use Rattle.nz_pointed.proofs.UnitLemmas.{entry_more, entries_all}
-use Rattle.nz_pointed.proofs.units.unit.Goals as goal
+use Rattle.nz_vec.proofs.UnitLemmas.{entry_more, entries_all}
+use Rattle.nz_vec.proofs.unit_vectors.unit.Goals as goal
 
 pub loop-column-preserved : goal.loop-column-preserved
 loop-column-preserved g c = (
