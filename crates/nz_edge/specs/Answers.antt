@@ -1,7 +1,7 @@
 -- What the calls of a folder and a console answer and leave.
 use Rattle.std.specs.Prelude.{◌≡◌, ℕ, ◌+◌, ◌<◌, ◌≤◌, length, take, ◌++◌, Option, Some, None, Bool, true, false}
 use Rattle.nz_vec.specs.Texts.{Text}
-use Rattle.nz_edge.specs.Counts.{Rose, IsQuiet}
+use Rattle.nz_watch.specs.Counts.{Rose, IsQuiet}
 use Rattle.nz_edge.specs.Folders.{Files, SameFiles, SameOthers, Stores, BothTold}
 use Rattle.nz_edge.specs.declared.folder.Load.{Load}
 use Rattle.nz_edge.specs.declared.folder.Load.TheVariants as load

@@ -1,6 +1,6 @@
 -- The calls of a folder or a console in memory, which are numbered from 1. Those whose number is listed fail.
 use Rattle.std.specs.Prelude.{◌≡◌, Contains}
-use Rattle.nz_edge.specs.Counts.{raised}
+use Rattle.nz_watch.specs.Counts.{raised}
 use Rattle.nz_edge.specs.declared.calls.Calls.{Calls}
 
 -- the number of the call that comes next is listed

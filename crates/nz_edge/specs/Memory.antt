@@ -1,7 +1,7 @@
 -- What a folder and a console in memory hold, and which of their calls fail.
 use Rattle.std.specs.Prelude.{◌≡◌, ◌≢◌, ◌⊎◌, ℕ, ◌+◌, ◌≤◌, List, [], length, string_bytes, AllPairs}
 use Rattle.nz_vec.specs.Texts.{Text}
-use Rattle.nz_edge.specs.Counts.{raised}
+use Rattle.nz_watch.specs.Counts.{raised}
 use Rattle.nz_edge.specs.Folders.{Files}
 use Rattle.nz_edge.specs.Places.{Named, find_file}
 use Rattle.nz_edge.specs.Calls.{IsListed}

@@ -1,7 +1,7 @@
 ghost use Rattle.std.specs.Prelude.{◌≡◌, ◌↔◌, IsTrue};
 ghost use Rattle.nz_edge.specs.Calls.{IsListed, IsOneMore};
 
-use crate::count::raise;
+use nz_watch::raise;
 
 /// The calls of an object in memory: how many were made, and the numbers, from 1, of those that fail.
 #[derive(Drop)]

@@ -1,6 +1,6 @@
 ghost use Rattle.std.specs.Prelude.{None};
 
-use crate::Watch;
+use nz_watch::Watch;
 use std::io::Eprint;
 
 // Prints the line of a stage to standard error. A line that cannot be printed is left out, since no run depends on it.
@@ -21,11 +21,7 @@ impl<R: Eprint + Drop> LinesWatch<R> {
 }
 
 impl<R: Eprint + Drop> Watch for LinesWatch<R> {
-    ghost told = { λ w. None };
-
-    ghost patience = { λ w. None };
-
-    ghost stops = { λ w. 0 };
+    ghost seen = { λ w. record { told = None; patience = None; stops = 0 } };
 
     fn stage(&mut self, number: u64, count: u64) -> bool {
         print_stage(&self.rt, number, count);

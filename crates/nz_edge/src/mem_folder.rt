@@ -6,9 +6,9 @@ ghost use Rattle.nz_edge.specs.Memory.{HaveDistinctNames, IsNewFolder, LoadCount
 ghost use Rattle.nz_edge.specs.Places.{IsPlaceOf, IsAppended, find_file};
 
 use crate::calls::Calls;
-use crate::count::raise;
 use crate::{Folder, Load, Stored};
 use nz_vec::{Bytes, NoMemory};
+use nz_watch::raise;
 use std::alloc::Global;
 
 /// Files in memory, for tests of a run. The calls with a listed number fail, so that a test can see what a run does then.

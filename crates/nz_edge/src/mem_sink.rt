@@ -5,9 +5,9 @@ ghost use Rattle.nz_edge.specs.Memory.{IsNewSink, WriteCounts, bytes_of};
 
 use crate::buffer::Buffer;
 use crate::calls::Calls;
-use crate::count::raise;
 use crate::{Sink, Wrote};
 use nz_vec::NoMemory;
+use nz_watch::raise;
 use std::alloc::Global;
 
 /// A console in memory with room for so many bytes, for tests of a run. The calls with a listed number fail.

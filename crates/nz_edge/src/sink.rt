@@ -1,5 +1,5 @@
 ghost use Rattle.std.specs.Prelude.{◌≡◌, ◌≤◌, ℕ, List, Option, length, IsTrue, IsFalse};
-ghost use Rattle.nz_edge.specs.Counts.{Rose};
+ghost use Rattle.nz_watch.specs.Counts.{Rose};
 ghost use Rattle.nz_edge.specs.Folders.{BothTold};
 ghost use Rattle.nz_edge.specs.Answers.{Takes, WroteCause, PutAll};
 

@@ -1,8 +1,7 @@
 ghost use Rattle.std.specs.Prelude.{◌≡◌, Some, None};
 
-use crate::Watch;
-use crate::count::raise;
 use crate::lines_watch::print_stage;
+use nz_watch::{Watch, raise};
 use std::io::Eprint;
 
 /// A watch that lets a number of stages pass, and asks to stop at each later one.
@@ -31,11 +30,7 @@ impl<R: Eprint + Drop> StopWatch<R> {
 }
 
 impl<R: Eprint + Drop> Watch for StopWatch<R> {
-    ghost told = { λ w. None };
-
-    ghost patience = { λ w. Some w.left };
-
-    ghost stops = { λ w. w.stops };
+    ghost seen = { λ w. record { told = None; patience = Some w.left; stops = w.stops } };
 
     fn stage(&mut self, number: u64, count: u64) -> bool {
         if self.lines {

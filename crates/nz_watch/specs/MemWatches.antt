@@ -1,8 +1,8 @@
 -- What a watch in memory tells, and when it asks to stop.
 use Rattle.std.specs.Prelude.{◌≡◌, ℕ, List, ◌-◌, ◌≤◌, ◌↔◌, ◌⊎◌, [], Option, Some, None, Bool, IsTrue, IsFalse, length, option_map, if◌then◌else◌, IsSomeAnd, MatchBool}
-use Rattle.nz_edge.specs.Counts.{raised}
-use Rattle.nz_edge.specs.declared.mem_watch.MemWatch.{MemWatch}
-use Rattle.nz_edge.specs.Watching.{Pair}
+use Rattle.nz_watch.specs.Counts.{raised}
+use Rattle.nz_watch.specs.declared.mem_watch.MemWatch.{MemWatch}
+use Rattle.nz_watch.specs.Watching.{Pair}
 
 -- the pairs, until more came than there is room for
 abbrev pub pairs_of : MemWatch → Option (List Pair)

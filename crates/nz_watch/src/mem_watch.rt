@@ -1,7 +1,7 @@
 ghost use Rattle.std.specs.Prelude.{◌≡◌, ◌≤◌, ◌<◌, IfOk, IfSome, IsFalse};
-ghost use Rattle.nz_edge.specs.Counts.{raised, Rose};
-ghost use Rattle.nz_edge.specs.Watching.{Tells, Waits, told_at};
-ghost use Rattle.nz_edge.specs.MemWatches.{IsNewWatch, StageCounts, pairs_of, calls_left};
+ghost use Rattle.nz_watch.specs.Counts.{raised, Rose};
+ghost use Rattle.nz_watch.specs.Watching.{Tells, Waits, told_at};
+ghost use Rattle.nz_watch.specs.MemWatches.{IsNewWatch, StageCounts, pairs_of, calls_left};
 
 use crate::Watch;
 use crate::count::raise;
@@ -37,13 +37,9 @@ impl MemWatch {
 }
 
 impl Watch for MemWatch {
-    ghost use Rattle.nz_edge.specs.MemWatches.{pairs_of, calls_left};
+    ghost use Rattle.nz_watch.specs.MemWatches.{pairs_of, calls_left};
 
-    ghost told = { λ w. pairs_of w };
-
-    ghost patience = { λ w. calls_left w };
-
-    ghost stops = { λ w. w.stops };
+    ghost seen = { λ w. record { told = pairs_of w; patience = calls_left w; stops = w.stops } };
 
     fn stage(&mut self, number: u64, count: u64) -> bool
         ensures told { Tells (pairs_of self.old) (pairs_of self.new) (number, count) }

@@ -3,8 +3,8 @@ use Rattle.std.proofs.Common.{◌≡◌, ℕ, zero, suc, ◌+◌, ◌-◌, List,
 use Rattle.std.proofs.lemmas.List.{append_assoc, append-nil, length-append}
 use Rattle.std.proofs.lemmas.Option.{none-some, same_Some}
 use Rattle.std.proofs.Math.Nat.{zero-sub, sub-zero}
-use Rattle.nz_edge.specs.Watching.{Pair, Grew}
-use Rattle.nz_edge.specs.Telling.{Watched, Fell, StopsAt, WasTold}
+use Rattle.nz_watch.specs.Watching.{Pair, Grew}
+use Rattle.nz_watch.specs.Telling.{Watched, Fell, StopsAt, WasTold}
 
 grew_more : (a b c : Option (List Pair)) (ps qs : List Pair) → Grew a b ps → Grew b c qs → Grew a c (ps ++ qs)
 grew_more None None None ps qs h k = tt

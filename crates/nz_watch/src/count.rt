@@ -1,5 +1,5 @@
 ghost use Rattle.std.specs.Prelude.{◌≡◌, ◌≤◌};
-ghost use Rattle.nz_edge.specs.Counts.{raised, Rose};
+ghost use Rattle.nz_watch.specs.Counts.{raised, Rose};
 
 /// Counts one more event. A count stays at its last value.
 pub fn raise(count: &mut u64)

@@ -1,7 +1,7 @@
 -- What a watch is told of the stages of a call.
 use Rattle.std.specs.Prelude.{◌≡◌, ℕ, ◌+◌, ◌-◌, ◌<◌, ◌≤◌, max, List, length, get_or, take, drop, Option, Some, None, Bool, true, false}
-use Rattle.nz_edge.specs.Counts.{Rose}
-use Rattle.nz_edge.specs.Watching.{Pair, Grew}
+use Rattle.nz_watch.specs.Counts.{Rose}
+use Rattle.nz_watch.specs.Watching.{Pair, Grew}
 
 -- what a call can change of a watch
 pub record Watched : Type 0 where

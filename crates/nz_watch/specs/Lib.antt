@@ -1,0 +1,4 @@
+pub mod Counts
+pub mod Watching
+pub mod Telling
+pub mod MemWatches
