@@ -7,7 +7,7 @@ use Rattle.nz_spec.specs.Vectors.{Vector, dot}
 use Rattle.nz_spec.specs.Order.{Pairwise}
 use Rattle.std.proofs.lemmas.Int.{ints}
 use Rattle.nz_spec.proofs.EquationLaws.{dot_comm}
-use Rattle.nz_spec.proofs.ListLaws.{contains_here, contains_there, contains_cases, contains_none, Each-contains}
+use Rattle.nz_spec.proofs.ListLaws.{contains_here, contains_there, contains_cases, contains_none, Each-contains, contains_at}
 use Rattle.nz_linear.specs.DualPairs.{Pair}
 use Rattle.nz_linear.proofs.Lists.{each_map, each_append, map_each, zip_append}
 use Rattle.nz_range.specs.Measures.{AreLargeFor}
@@ -97,16 +97,11 @@ contains_taken zero xs x h = absurd (contains_none x h)
 contains_taken (suc k) [] x h = h
 contains_taken (suc k) (y ∷ xs) x h = elim (contains_cases y (take k xs) x h) [ inl e ↦ subst (Contains (y ∷ xs)) e (contains_here y xs) | inr m ↦ contains_there y x xs (contains_taken k xs x m) ]
 
-pub contains_get : {A : Type 0} (k : ℕ) (xs : List A) (d : A) → k < length xs → Contains xs (get_or xs k d)
-contains_get k [] d l = absurd (omega arith)
-contains_get zero (x ∷ xs) d l = contains_here x xs
-contains_get (suc k) (x ∷ xs) d l = contains_there x (get_or xs k d) xs (contains_get k xs d (omega arith))
-
 -- what stands at a place does not stand before
 pub not_before : {A : Type 0} (k : ℕ) (xs : List A) (d : A) → Pairwise ◌≢◌ xs → k < length xs → ¬ Contains (take k xs) (get_or xs k d)
 not_before k [] d p l h = absurd (omega arith)
 not_before zero (x ∷ xs) d p l h = contains_none x h
-not_before (suc k) (x ∷ xs) d p l h = ⊎_elim (λ e. Each-contains (λ y. x ≢ y) xs (get_or xs k d) p.0 (contains_get k xs d (omega arith)) e) (λ m. not_before k xs d p.1 (omega arith) m) (contains_cases x (take k xs) (get_or xs k d) h)
+not_before (suc k) (x ∷ xs) d p l h = ⊎_elim (λ e. Each-contains (λ y. x ≢ y) xs (get_or xs k d) p.0 (contains_at xs k d (omega arith)) e) (λ m. not_before k xs d p.1 (omega arith) m) (contains_cases x (take k xs) (get_or xs k d) h)
 
 mapped_taken : {A B : Type 0} (f : A → B) (k : ℕ) (xs : List A) → map f (take k xs) ≡ take k (map f xs)
 mapped_taken f zero xs = refl
@@ -229,14 +224,14 @@ pub extended_all : (rays : List Vector) (place i : ℕ) (facets : List Vector) (
 extended_all rays place i facets cells more l a = subst (λ (fs : List Vector). IsExtended rays place fs cells more) (take_all i facets l) a
 
 pub width_at : (w i : ℕ) (facets : List Vector) (f : Vector) → Each (λ g. length g ≡ w) facets → i < length facets → f ≡ get_or facets i [] → length f ≡ w
-width_at w i facets f h l e = subst (λ (g : Vector). length g ≡ w) (sym e) (Each-contains (λ (g : Vector). length g ≡ w) facets (get_or facets i []) h (contains_get i facets [] l))
+width_at w i facets f h l e = subst (λ (g : Vector). length g ≡ w) (sym e) (Each-contains (λ (g : Vector). length g ≡ w) facets (get_or facets i []) h (contains_at facets i [] l))
 
 pub ready_for : (w : ℕ) (rays : List Vector) (place i : ℕ) (facets : List Vector) (f : Vector) (cells : List (List Vertex)) → Each (λ g. length g ≡ w) facets → i < length facets → f ≡ get_or facets i [] → AreReady w rays place cells → AreReady (length f) rays place cells
 ready_for w rays place i facets f cells h l e r = subst (λ (n : ℕ). AreReady n rays place cells) (sym (width_at w i facets f h l e)) r
 
 pub large_some : (h : ℤ) (ray f : Vector) (i : ℕ) (facets forms : List Vector) → i < length facets → f ≡ get_or facets i [] → AreLargeFor h ray (f ∷ forms) → AreLargeFor h ray (facets ++ forms)
 large_some h ray f i facets forms l e a = large_within h ray (f ∷ forms) (facets ++ forms)
-    (Contains-append_left facets forms f (subst (Contains facets) (sym e) (contains_get i facets [] l)), each_map (Contains forms) (Contains (facets ++ forms)) forms (λ g k. Contains-append_right facets forms g k) (own_forms forms)) a
+    (Contains-append_left facets forms f (subst (Contains facets) (sym e) (contains_at facets i [] l)), each_map (Contains forms) (Contains (facets ++ forms)) forms (λ g k. Contains-append_right facets forms g k) (own_forms forms)) a
 
 -- ---- the value at the facet
 pub seen_by : (v f : Vector) (a : ℤ) → a ≡ dot v f → a <ℤ pos 0 → dot f v <ℤ pos 0

@@ -5,7 +5,7 @@ use Rattle.std.specs.List.{AllByRecursion as Each, AllZip, Contains}
 use Rattle.std.proofs.lemmas.List.{take_more, take_all}
 use Rattle.nz_spec.specs.Vectors.{Vector, dot, plus, scaled}
 use Rattle.nz_spec.specs.Order.{IsLexBefore, Pairwise}
-use Rattle.nz_spec.proofs.ListLaws.{IsLexBefore-asymmetric, contains_here, contains_there, contains_cases, contains_none}
+use Rattle.nz_spec.proofs.ListLaws.{IsLexBefore-asymmetric, contains_here, contains_there, contains_cases, contains_none, zip_push}
 use Rattle.nz_range.proofs.Fits.{abs_of_neg}
 use Rattle.nz_linear.specs.Cones.{meet}
 use Rattle.nz_range.specs.Measures.{AreLargeFor}
@@ -70,13 +70,6 @@ pub pairwise_without : {A : Type 0} (R : A → A → Type 0) (j : ℕ) (xs : Lis
 pairwise_without R j [] h = tt
 pairwise_without R zero (x ∷ xs) h = h.1
 pairwise_without R (suc j) (x ∷ xs) h = (each_without (R x) j xs h.0, pairwise_without R j xs h.1)
-
--- ---- one more tilted corner
-pub zip_push : {A B : Type 0} (R : A → B → Type 0) (xs : List A) (ys : List B) (x : A) (y : B) → AllZip R xs ys → R x y → AllZip R (xs ++ x ∷ []) (ys ++ y ∷ [])
-zip_push R [] [] x y z r = (r, tt)
-zip_push R [] (b ∷ ys) x y z r = absurd z
-zip_push R (a ∷ xs) [] x y z r = absurd z
-zip_push R (a ∷ xs) (b ∷ ys) x y z r = (z.0, zip_push R xs ys x y z.1 r)
 
 pub tilted_more : (R : Vertex → Vertex → Type 0) (j i : ℕ) (cell : List Vertex) (u v : Vertex) (ts : List Vertex) → i < length cell → i ≢ j → u ≡ get_or cell i u → AllZip R (without j (take i cell)) ts → R u v → AllZip R (without j (take (i + 1) cell)) (ts ++ v ∷ [])
 tilted_more R j i cell u v ts l n e z r =

@@ -1,5 +1,5 @@
 -- All rays placed: the simplices in order are a good cover of their cone, with the dual forms of each.
-use Rattle.std.proofs.Common.{◌≡◌, ◌≢◌, ℕ, suc, ◌<◌, List, [], ◌∷◌, length, map, get_or, refl, sym, ap, ◌∙◌, subst, arith}
+use Rattle.std.proofs.Common.{◌≡◌, ◌≢◌, ℕ, ◌<◌, List, [], ◌∷◌, length, map, get_or, refl, sym, ap, ◌∙◌, subst, arith}
 use Rattle.std.specs.List.{AllByRecursion as Each, AllZip, Contains}
 use Rattle.std.proofs.lemmas.List.{length-map}
 use Rattle.std.proofs.lemmas.List.Sorted.{Contains-permutation, IsPermutation-sym}
@@ -13,6 +13,7 @@ use Rattle.nz_linear.specs.DualPairs.{Pair}
 use Rattle.nz_linear.proofs.Lists.{each_map, map_each}
 use Rattle.nz_linear.proofs.Dependence.{complete_length}
 use Rattle.nz_rays.specs.Descriptions.{RowsAndRays}
+use Rattle.nz_rays.proofs.RayLemmas.{each_by_place}
 use Rattle.nz_cover.specs.Cells.{IsCell, AreApart, AreCells}
 use Rattle.nz_cover.specs.Corners.{Vertex, places_of, forms_of, pairs_of, cells_of}
 use Rattle.nz_cover.specs.Listing.{AreDistinct, AreListed}
@@ -52,10 +53,6 @@ placed_distinct w rays placed cells d a =
     pair_at u = record { form = u.form; vector = get_or rays u.place [] }
 
 -- ---- the cover
-each_by_place : {A : Type 0} (P : A → Type 0) (d : A) (xs : List A) → ((k : ℕ) → k < length xs → P (get_or xs k d)) → Each P xs
-each_by_place P d [] f = tt
-each_by_place P d (x ∷ xs) f = (f 0 (omega arith), each_by_place P d xs (λ k l. f (suc k) (omega arith)))
-
 dual_lists : (w : ℕ) (rays : List Vector) (sorted : List (List Vertex)) → Each (λ c. IsCell w (pairs_of rays c)) sorted → AllZip (λ places fs. AreDualForms w (vectors_at rays places) fs) (map places_of sorted) (map forms_of sorted)
 dual_lists w rays [] k = tt
 dual_lists w rays (c ∷ sorted) k = (dual_forms w rays c k.0, dual_lists w rays sorted k.1)

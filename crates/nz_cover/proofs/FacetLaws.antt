@@ -5,7 +5,7 @@ use Rattle.nz_spec.specs.Vectors.{Vector, zero_vector, HasWidth}
 use Rattle.nz_spec.specs.Sums.{IsInSpan, IsIndependent}
 use Rattle.nz_spec.specs.Order.{Pairwise, IsListOf, HasNumber}
 use Rattle.nz_spec.specs.Forms.{IsOtherColumn, IsDualForm, IsNormalForm, IsSupportForm}
-use Rattle.nz_spec.proofs.ListLaws.{Each-contains, Each-from_contains}
+use Rattle.nz_spec.proofs.ListLaws.{Each-contains, Each-from_contains, contains_at}
 use Rattle.nz_linear.specs.RayStep.{AreExtremeRays}
 use Rattle.nz_linear.proofs.FacetRows as rows
 use Rattle.nz_linear.proofs.Lists.{each_map, each_append, each_of_map, zip_to_right}
@@ -24,7 +24,6 @@ use Rattle.nz_cover.specs.Cells.{IsCell, IsOf}
 use Rattle.nz_cover.specs.Corners.{Vertex, places_of, forms_of, pairs_of, cells_of, all_forms}
 use Rattle.nz_cover.specs.Placed.{ArePlaced}
 use Rattle.nz_cover.proofs.CellLaws.{vectors_of, cell_span}
-use Rattle.nz_cover.proofs.AddedLemmas.{contains_get}
 use Rattle.nz_cover.proofs.GoodCover.{no_other_column, pairs_vectors, dual_forms}
 
 -- the vectors span all vectors of the width
@@ -82,7 +81,7 @@ support_is_normal w vs all f lv span within s = ⊎_elim (λ z. absurd (s.not_al
 
 -- ---- what is large in a step is a normal form of the rays, or a ray at one
 pub taken_from : (rays : List Vector) (placed : List ℕ) → Each (λ p. p < length rays) placed → Each (Contains rays) (vectors_at rays placed)
-taken_from rays placed h = each_of_map (λ (p : ℕ). get_or rays p []) (Contains rays) placed (each_map (λ (p : ℕ). p < length rays) (λ (p : ℕ). Contains rays (get_or rays p [])) placed (λ p l. contains_get p rays [] l) h)
+taken_from rays placed h = each_of_map (λ (p : ℕ). get_or rays p []) (Contains rays) placed (each_map (λ (p : ℕ). p < length rays) (λ (p : ℕ). Contains rays (get_or rays p [])) placed (λ p l. contains_at rays p [] l) h)
 
 cell_normals : (w : ℕ) (rays vs : List Vector) (c : List Vertex) → IsCell w (pairs_of rays c) → IsOf vs (pairs_of rays c) → Each (Contains rays) vs → Each (IsNormalForm w rays) (forms_of c)
 cell_normals w rays vs c k o within =
@@ -128,5 +127,5 @@ placed_too_large h w rays placed place cells d lr l inside a i big =
     let normals = each_append (IsNormalForm w rays) d.rays (all_forms cells) facets (all_normals w rays vs cells a.cover.each a.cover.of_list within) in
     ⊎_elim
     (λ (s : SomeLarge h (Contains (d.rays ++ all_forms cells))). inl (record { vector = s.vector; named = Each-contains (IsNormalForm w rays) (d.rays ++ all_forms cells) s.vector normals s.named; large = s.large }))
-    (λ (s : SomeLargeAt h (λ g. g ≡ get_or rays place []) (Contains (d.rays ++ all_forms cells))). inr (record { form = s.form; vector = s.vector; is_form = subst (Contains rays) (sym s.is_form) (contains_get place rays [] l); named = Each-contains (IsNormalForm w rays) (d.rays ++ all_forms cells) s.vector normals s.named; large = s.large }))
+    (λ (s : SomeLargeAt h (λ g. g ≡ get_or rays place []) (Contains (d.rays ++ all_forms cells))). inr (record { form = s.form; vector = s.vector; is_form = subst (Contains rays) (sym s.is_form) (contains_at rays place [] l); named = Each-contains (IsNormalForm w rays) (d.rays ++ all_forms cells) s.vector normals s.named; large = s.large }))
     big

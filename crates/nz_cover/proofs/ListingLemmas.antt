@@ -15,7 +15,7 @@ use Rattle.std.specs.Cmp.{nat_cmp_is}
 use mathlib.Core.Bool.{true≢false}
 use Rattle.nz_spec.specs.Vectors.{Vector}
 use Rattle.nz_spec.specs.Order.{Pairwise, IsLexLess, ListsOnce}
-use Rattle.nz_spec.proofs.ListLaws.{Each-contains, Each-from_contains}
+use Rattle.nz_spec.proofs.ListLaws.{Each-contains, Each-from_contains, each_at}
 use Rattle.nz_linear.proofs.Lists.{each_append}
 use Rattle.nz_order.proofs.SortLaws.{permuted_once, Pairwise-neighbours}
 use Rattle.nz_cover.specs.Corners.{Vertex, places_of, forms_of}
@@ -109,11 +109,6 @@ related_map f R x (y ∷ xs) h = (h.0, related_map f R x xs h.1)
 pub pairwise_map : {A B : Type 0} (f : A → B) (R : B → B → Type 0) (xs : List A) → Pairwise (λ x y. R (f x) (f y)) xs → Pairwise R (map f xs)
 pairwise_map f R [] h = tt
 pairwise_map f R (x ∷ xs) h = (related_map f R x xs h.0, pairwise_map f R xs h.1)
-
-each_at : {A : Type 0} (P : A → Type 0) (xs : List A) (k : ℕ) (d : A) → Each P xs → k < length xs → P (get_or xs k d)
-each_at P [] k d h l = absurd (omega (arith, l))
-each_at P (x ∷ xs) zero d h l = h.0
-each_at P (x ∷ xs) (suc k) d h l = each_at P xs k d h.1 (omega (arith, l))
 
 map_map : {A B C : Type 0} (f : A → B) (g : B → C) (xs : List A) → map (λ x. g (f x)) xs ≡ map g (map f xs)
 map_map f g [] = refl

@@ -9,7 +9,7 @@ use Rattle.nz_spec.specs.Sums.{IsInSpan, IsIndependent, HasRank}
 use Rattle.nz_spec.specs.Order.{IsListOf}
 use Rattle.nz_spec.specs.Covers.{vectors_at}
 use Rattle.nz_spec.specs.Stages.{IsFreshVector, Separates, none, fresh, other, IsIndependentFirst}
-use Rattle.nz_spec.proofs.ListLaws.{contains_here, contains_there, contains_cases, contains_none, Each-contains}
+use Rattle.nz_spec.proofs.ListLaws.{contains_here, contains_there, contains_cases, contains_none, Each-contains, contains_at}
 use Rattle.nz_spec.proofs.LinearLaws.{HasRank-unique}
 use Rattle.nz_spec.proofs.VectorLaws.{IsZero-zero_vector}
 use Rattle.nz_spec.proofs.EquationLaws.{dot_comm, zero_on_span}
@@ -27,7 +27,6 @@ use Rattle.nz_range.proofs.Causes.{each_own as own_members}
 use Rattle.nz_rays.proofs.CutLemmas.{same_or_not}
 use Rattle.nz_cover.specs.Passing.{IsLeft}
 use Rattle.nz_cover.specs.Placing.{ArePlaceable}
-use Rattle.nz_cover.proofs.AddedLemmas.{contains_get}
 use Rattle.nz_cover.proofs.CellLaws.{vectors_of, cell_span}
 
 pub held_or_not : (xs : List ℕ) (x : ℕ) → Contains xs x ⊎ ¬ Contains xs x
@@ -248,7 +247,7 @@ firsts_of w rows wide (suc n) l =
     let r = firsts_of w rows wide n (omega (arith, l)) in
     let v = get_or rows n [] in
     let within : n < length rows = omega (arith, l) in
-    let lv : HasWidth w v = Each-contains (HasWidth w) rows v wide (contains_get n rows [] within) in
+    let lv : HasWidth w v = Each-contains (HasWidth w) rows v wide (contains_at rows n [] within) in
     let lt = each_take (HasWidth w) rows n wide in
     let lb = each_map (Contains (vectors_at rows r.places)) (HasWidth w) r.base (λ x k. Each-contains (HasWidth w) (vectors_at rows r.places) x (widths_at r.places (each_map (λ p. IsNew w rows p × (p < n)) (λ p. p < length rows) r.places (λ p h. h.0.within) r.lists.only)) k) r.members in
     let step : suc n ≡ n + 1 = omega arith in
@@ -285,10 +284,10 @@ firsts_of w rows wide (suc n) l =
   where
     widths_at : (ps : List ℕ) → Each (λ p. p < length rows) ps → Each (HasWidth w) (vectors_at rows ps)
     widths_at [] h = tt
-    widths_at (p ∷ ps) h = (Each-contains (HasWidth w) rows (get_or rows p []) wide (contains_get p rows [] h.0), widths_at ps h.1)
+    widths_at (p ∷ ps) h = (Each-contains (HasWidth w) rows (get_or rows p []) wide (contains_at rows p [] h.0), widths_at ps h.1)
 
     taken_at : (n : ℕ) (rows : List Vector) (p : ℕ) → n < length rows → p < n → Contains (take n rows) (get_or rows p [])
-    taken_at n rows p l m = subst (Contains (take n rows)) (get_or-take n rows p [] m) (contains_get p (take n rows) [] (let e = length-take-le n rows (omega (arith, l)) in omega (arith, e, m)))
+    taken_at n rows p l m = subst (Contains (take n rows)) (get_or-take n rows p [] m) (contains_at (take n rows) p [] (let e = length-take-le n rows (omega (arith, l)) in omega (arith, e, m)))
 
 -- the first independent rays, which are as many as their entries
 pub record Firsts (w : ℕ) (rays : List Vector) : Type 0 where
@@ -303,7 +302,7 @@ firsts w rays a =
     let r = firsts_of w rays a.widths (length rays) (omega arith) in
     let vs = vectors_at rays r.places in
     let first : AreFirstIndependent w rays r.places = list_change (λ p. IsNew w rays p × (p < length rays)) (IsNew w rays) r.places (λ q h. h.0) (λ q h. (h, h.within)) r.lists in
-    let within : Each (Contains rays) vs = each_of_map (λ (p : ℕ). get_or rays p []) (Contains rays) r.places (each_map (IsNew w rays) (λ p. Contains rays (get_or rays p [])) r.places (λ p h. contains_get p rays [] h.within) first.only) in
+    let within : Each (Contains rays) vs = each_of_map (λ (p : ℕ). get_or rays p []) (Contains rays) r.places (each_map (IsNew w rays) (λ p. Contains rays (get_or rays p [])) r.places (λ p h. contains_at rays p [] h.within) first.only) in
     let lv = each_map (Contains rays) (HasWidth w) vs (λ x k. Each-contains (HasWidth w) rays x a.widths k) within in
     let lb = each_map (Contains vs) (HasWidth w) r.base (λ x k. Each-contains (HasWidth w) vs x lv k) r.members in
     let spans : Each (IsInSpan w r.base) rays = subst (Each (IsInSpan w r.base)) (take_all (length rays) rays (omega arith)) r.spans in

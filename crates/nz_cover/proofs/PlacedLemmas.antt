@@ -3,12 +3,12 @@ use Rattle.std.proofs.Common.{◌≡◌, ◌≢◌, ◌⊎◌, ⊎_elim, inl, in
 use Rattle.std.proofs.lemmas.List.{map-append, length-map, take_more, take_all}
 use Rattle.std.proofs.lemmas.List.Elements.{Contains-append_left, Contains-append_right}
 use Rattle.std.specs.List.{AllByRecursion as Each, AllZip, Contains}
-use Rattle.nz_spec.specs.Vectors.{Vector, dot, combination, HasWidth, IsPrimitive, IsZero}
+use Rattle.nz_spec.specs.Vectors.{Vector, dot, combination, HasWidth, IsPrimitive}
 use Rattle.nz_spec.specs.Sums.{IsInSpan, IsIndependent}
 use Rattle.nz_spec.specs.Order.{Pairwise}
 use Rattle.nz_spec.specs.Covers.{vectors_at}
 use Rattle.nz_spec.proofs.SumLaws.{length-combination}
-use Rattle.nz_spec.proofs.ListLaws.{contains_here, contains_there, contains_cases, contains_none, Each-contains}
+use Rattle.nz_spec.proofs.ListLaws.{contains_here, contains_there, Each-contains, contains_at}
 use Rattle.nz_linear.specs.DualPairs.{Pair, pair_of, divisor}
 use Rattle.nz_linear.specs.RayStep.{AreExtremeRays}
 use Rattle.nz_linear.proofs.Ring.{sums, one-mul}
@@ -17,9 +17,7 @@ use Rattle.nz_linear.proofs.DualPairs.{widths_of_vectors, divisors_positive, dua
 use Rattle.nz_linear.proofs.DualCone.{swap, swapped_dual, swapped_widths, swapped_only_zero}
 use Rattle.nz_linear.proofs.Floors.{values_at_combination}
 use Rattle.nz_linear.proofs.Members.{members_push}
-use Rattle.nz_spec.proofs.VectorLaws.{IsZero-zero_vector}
-use Rattle.nz_linear.proofs.Division.{primitive_nonzero}
-use Rattle.nz_pointed.specs.Pointed.{paired, IsSimplexOf, IsLineOf, IsNew}
+use Rattle.nz_pointed.specs.Pointed.{paired, IsSimplexOf, IsNew}
 use Rattle.nz_rays.specs.Descriptions.{RowsAndRays, IsDescription}
 use Rattle.nz_rays.proofs.StartLemmas.{simplex_width}
 use Rattle.std.specs.Prelude.{◌+◌}
@@ -30,9 +28,7 @@ use Rattle.nz_cover.specs.Steps.{IsPlacingStep}
 use Rattle.nz_cover.specs.Corners.{Vertex, vertex, places_of, pairs_of, cells_of, AreInOrder, IsPlaceOf, IsExtended, AreReady}
 use Rattle.nz_cover.specs.Placed.{ArePlaced, ArePlacedUpTo, vertices}
 use Rattle.nz_cover.specs.Placing.{ArePlaceable}
-use Rattle.nz_cover.proofs.AddedLemmas.{contains_get}
 use Rattle.nz_cover.proofs.CellLaws.{vectors_of, cell_span}
-use Rattle.nz_cover.proofs.OrderLemmas.{placeable_pointed}
 use Rattle.nz_cover.proofs.StepCovers.{step_cells}
 use Rattle.nz_cover.proofs.GoodCover.{start_cells, cells_of_members, pairs_vectors}
 
@@ -178,7 +174,7 @@ simplex_placeable w rays places forms l s =
       full = record {
         base = vs;
         size = length-map places (λ (p : ℕ). get_or rays p []) ∙ sym (simplex_width w rays forms places s);
-        members = each_of_map (λ (p : ℕ). get_or rays p []) (Contains rays) places (each_map (IsNew w rays) (λ (p : ℕ). Contains rays (get_or rays p [])) places (λ p n. contains_get p rays [] n.within) s.first.only);
+        members = each_of_map (λ (p : ℕ). get_or rays p []) (Contains rays) places (each_map (IsNew w rays) (λ (p : ℕ). Contains rays (get_or rays p [])) places (λ p n. contains_at rays p [] n.within) s.first.only);
         independent = subst (IsIndependent w) vectors (dual_independent w (pairs_of rays c) cell.dual);
         all = λ x k. subst (λ (us : List Vector). IsInSpan w us x) vectors (cell_span w (pairs_of rays c) x cell.dual cell.only_zero (Each-contains (HasWidth w) rays x l k));
       };
@@ -215,18 +211,6 @@ vertices_all i ps fs now l n e = e ∙ ap₂ vertices (take_all i ps l) (take_al
 pub begun_is : (w : ℕ) (rays : List Vector) (places : List ℕ) (forms : List Vector) (cell : List Vertex) (cells : List (List Vertex)) (d : RowsAndRays) → IsSimplexOf w rays places forms → d.width ≡ w → d.rows ≡ vectors_at rays places → cell ≡ vertices places forms → cells ≡ cell ∷ [] → ArePlaced w rays places cells d
 begun_is w rays places forms cell cells d s we re e h = subst (λ cs. ArePlaced w rays places cs d) (sym (h ∙ ap (λ c. c ∷ []) e)) (placed_start w rays places forms d s we re)
 
--- ---- whether a place is held
-pub not_held : (xs : List ℕ) (x : ℕ) → Each (λ y. y ≢ x) xs → Contains xs x → ⊥
-not_held [] x h k = contains_none x k
-not_held (y ∷ xs) x h k = ⊎_elim (λ e. h.0 e) (λ m. not_held xs x h.1 m) (contains_cases y xs x k)
-
-pub held_at : (xs : List ℕ) (i a x : ℕ) → i < length xs → a ≡ get_or xs i 0 → a ≡ x → Contains xs x
-held_at xs i a x l e h = subst (Contains xs) (sym e ∙ h) (contains_get i xs 0 l)
-
--- ---- no line
-pub no_line : (w : ℕ) (rays : List Vector) (v : Vector) → ArePlaceable w rays → IsLineOf w rays v → ⊥
-no_line w rays v a i = primitive_nonzero v i.primitive (subst IsZero (sym (placeable_pointed w rays a v i.width i.zero)) (IsZero-zero_vector w))
-
 -- ---- the loop
 pub loop_start : (w : ℕ) (rays : List Vector) (places placed : List ℕ) (forms : List Vector) (cells : List (List Vertex)) (d : RowsAndRays) → IsSimplexOf w rays places forms → placed ≡ places → ArePlaced (length places) rays placed cells d → ArePlacedUpTo w rays 0 placed cells d
 loop_start w rays places placed forms cells d s e a = record {
@@ -250,4 +234,4 @@ loop_more w n rays place placed after cells new d e l size is a s = record {
 }
 
 pub width_here : (w place : ℕ) (rays : List Vector) → Each (HasWidth w) rays → place < length rays → length (get_or rays place []) ≡ w
-width_here w place rays h l = Each-contains (HasWidth w) rays (get_or rays place []) h (contains_get place rays [] l)
+width_here w place rays h l = Each-contains (HasWidth w) rays (get_or rays place []) h (contains_at rays place [] l)

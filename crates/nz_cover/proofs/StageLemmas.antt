@@ -21,7 +21,7 @@ use Rattle.nz_linear.proofs.Spans.{span_of_members}
 use Rattle.nz_pointed.specs.Pointed.{IsNew, AreFirstIndependent}
 use Rattle.nz_pointed.proofs.ListLemmas.{each_take}
 use Rattle.nz_rays.specs.Descriptions.{RowsAndRays, IsDescription}
-use Rattle.nz_edge.specs.Watching.{Pair}
+use Rattle.nz_watch.specs.Watching.{Pair}
 use Rattle.nz_cover.specs.Corners.{Vertex}
 use Rattle.nz_cover.specs.Placed.{ArePlacedUpTo}
 use Rattle.nz_cover.specs.Passing.{PlacesOnce, IsLeft, IsUnderWay}

@@ -14,9 +14,9 @@ use Rattle.nz_vec.specs.declared.answers.Work.TheVariants.{Range, TooMany, Stopp
 use Rattle.nz_pointed.specs.Pointed.{AreFirstIndependent, IsSimplexOf, IsTooLarge}
 use Rattle.nz_rays.specs.Descriptions.{RowsAndRays, IsDescription}
 use Rattle.nz_rays.proofs.StartLemmas.{simplex_width}
-use Rattle.nz_edge.specs.Watching.{Pair}
-use Rattle.nz_edge.specs.Telling.{Watched, WasTold, HasPassed, HasPassedAll}
-use Rattle.nz_edge.proofs.TellingLemmas.{none_told, told_one_more}
+use Rattle.nz_watch.specs.Watching.{Pair}
+use Rattle.nz_watch.specs.Telling.{Watched, WasTold, HasPassed, HasPassedAll}
+use Rattle.nz_watch.proofs.TellingLemmas.{none_told, told_one_more}
 use Rattle.nz_cover.specs.Corners.{Vertex}
 use Rattle.nz_cover.specs.Placed.{ArePlacedUpTo}
 use Rattle.nz_cover.specs.Passing.{PlacesOnce, IsUnderWay, IsToldUpTo, LeavesAs, PassesStage, PassesIf}

@@ -11,8 +11,8 @@ use Rattle.nz_vec.specs.declared.answers.Num.{Num}
 use Rattle.nz_vec.specs.declared.answers.Num.TheVariants as nums
 use Rattle.nz_vec.specs.declared.answers.Work.{Work}
 use Rattle.nz_vec.specs.declared.answers.Work.TheVariants.{Range, TooMany, Stopped, NoMemory}
-use Rattle.nz_edge.specs.Watching.{Pair}
-use Rattle.nz_edge.specs.Telling.{Watched, WasTold}
+use Rattle.nz_watch.specs.Watching.{Pair}
+use Rattle.nz_watch.specs.Telling.{Watched, WasTold}
 
 -- whether the place is new: it was placed just now, or had been before
 abbrev pub PlacesOnce : List ℕ → ℕ → List ℕ → Bool → Type 0

@@ -10,7 +10,7 @@ use Rattle.nz_vec.specs.declared.answers.Work.{Work}
 use Rattle.nz_vec.specs.declared.answers.Work.TheVariants.{Range, TooMany, Stopped, NoMemory}
 use Rattle.nz_range.specs.Measures.{SomeLarge}
 use Rattle.nz_pointed.specs.Pointed.{IsTooLarge}
-use Rattle.nz_edge.specs.Telling.{Watched, HasPassed, HasStopped, HasLeft}
+use Rattle.nz_watch.specs.Telling.{Watched, HasPassed, HasStopped, HasLeft}
 
 -- vectors of one width, of which as many are independent
 pub record ArePlaceable (w : ℕ) (rays : List Vector) : Type 0 where

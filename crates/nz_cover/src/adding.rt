@@ -1,5 +1,5 @@
 // The simplices that a new ray adds.
-ghost use Rattle.std.specs.Prelude.{◌≡◌, ◌<◌, ◌++◌, ◌∷◌, [], length, get_or, neg_ℤ, pos, ◌<ℤ◌, IsTrue, ◌↔◌, MatchResult, ◌≢◌};
+ghost use Rattle.std.specs.Prelude.{◌≡◌, ◌<◌, ◌++◌, ◌∷◌, [], length, get_or, neg_ℤ, pos, ◌<ℤ◌, MatchResult, ◌≢◌};
 ghost use Rattle.std.specs.List.{AllByRecursion as Each};
 ghost use Rattle.nz_spec.specs.Vectors.{dot, HasWidth};
 ghost use Rattle.nz_spec.specs.Order.{Pairwise};
@@ -7,15 +7,8 @@ ghost use Rattle.nz_range.specs.Measures.{AreLargeFor};
 ghost use Rattle.nz_cover.specs.Corners.{AreReady, IsExtended, Appends, all_forms};
 
 use crate::corners::{Cell, across, replaced};
-use nz_vec::{Num, Row, Rows, Scalar};
+use nz_vec::{Num, Row, Rows, Scalar, is_negative};
 use std::alloc::Global;
-
-/// Whether a value stands for less than 0.
-fn is_negative<T: Scalar>(value: T) -> bool
-    ensures { IsTrue result ↔ (T.integer value <ℤ pos 0) }
-{
-    value < T::of_i64(0)
-}
 
 // Appends, for each simplex that lies on the facet, that with the ray at `place`.
 fn add_on<T: Scalar>(

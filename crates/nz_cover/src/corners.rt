@@ -1,13 +1,14 @@
 // Simplices under construction.
 ghost use Rattle.std.specs.Prelude.{◌≡◌, ◌≢◌, ◌<◌, ◌≤◌, ◌∷◌, [], ◌↔◌, ℕ, length, map, get_or, neg_ℤ, pos, ◌<ℤ◌, IsTrue, MatchResult, MatchOption, Contains};
 ghost use Rattle.std.specs.List.{AllByRecursion as Each, AllZip};
-ghost use Rattle.nz_spec.specs.Vectors.{dot, opposite, HasWidth};
-ghost use Rattle.nz_range.specs.Measures.{AreLargeFor, measure};
+ghost use Rattle.nz_spec.specs.Vectors.{dot, HasWidth};
+ghost use Rattle.nz_range.specs.Measures.{AreLargeFor};
 ghost use Rattle.nz_linear.specs.Cones.{meet};
 ghost use Rattle.nz_vec.specs.Primitives.{IsPrimitivePart};
 ghost use Rattle.nz_cover.specs.Cells.{IsCell};
 ghost use Rattle.nz_cover.specs.Corners.{vertex, forms_of, pairs_of, AreInOrder, without, IsBetween, IsTiltedAt, IsReplacedAt};
 
+use nz_pointed::opposite;
 use nz_vec::{Num, Row, Rows, Scalar, cmp_order};
 use std::alloc::Global;
 use std::cmp::Ordering;
@@ -92,13 +93,6 @@ fn tilted<T: Scalar>(
         Ok(sum) => sum.primitive(),
         Err(refusal) => Err(refusal),
     }
-}
-
-// The opposite row.
-fn opposite<T: Scalar>(alloc: Global, row: &Row<T>) -> Result<Row<T>, Num>
-    ensures { MatchResult result (λ r. r ≡ opposite row.now) (λ e. e ≡ Num.Range → T.HALF <ℤ pos (measure row.now)) }
-{
-    Row::combine(alloc, T::of_i64(-1), row, T::of_i64(0), row)
 }
 
 // The corners but the one across the facet, with tilted forms.

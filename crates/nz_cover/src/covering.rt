@@ -2,15 +2,16 @@
 ghost use Rattle.std.specs.Prelude.{◌≢◌, [], length, IsTrue, MatchResult};
 ghost use Rattle.nz_spec.specs.Stages.{ArePlacings};
 ghost use Rattle.nz_rays.specs.Descriptions.{IsDescription};
-ghost use Rattle.nz_edge.specs.Telling.{HasPassedAll};
+ghost use Rattle.nz_watch.specs.Telling.{HasPassedAll};
 ghost use Rattle.nz_cover.specs.Placed.{ArePlacedUpTo};
 ghost use Rattle.nz_cover.specs.Passing.{LeavesAs, PassesStage, PassesIf};
 ghost use Rattle.nz_cover.specs.Placing.{ArePlaceable, IsPlaced, IsPlaceRefusal};
 
 use crate::listing::{Cover, sorted_cover};
-use crate::placing::{Placing, begun, independent};
-use nz_edge::Watch;
+use crate::placing::{Placing, begun};
+use nz_rays::first_rows;
 use nz_vec::{Num, PlaceLists, RowLists, Rows, Scalar, Work};
+use nz_watch::Watch;
 use std::alloc::Global;
 
 // The refusal of a call that only reckons, after so many stages were passed.
@@ -32,7 +33,7 @@ fn pass_stage<T: Scalar>(
     passed: u64,
     watch: &mut Box<dyn Watch>,
 ) -> Result<u64, Work>
-    ensures passes { PassesStage told_before passed (length placing.now.placed, length placing.now.facets.rays) (record { told = told watch.old; patience = patience watch.old; stops = stops watch.old }) (record { told = told watch.new; patience = patience watch.new; stops = stops watch.new }) result }
+    ensures passes { PassesStage told_before passed (length placing.now.placed, length placing.now.facets.rays) (seen watch.old) (seen watch.new) result }
     ensures description { IsDescription placing.now.facets }
 {
     let number = placing.placed.len() as u64;
@@ -59,7 +60,7 @@ fn pass_if_new<T: Scalar>(
     passed: u64,
     watch: &mut Box<dyn Watch>,
 ) -> Result<u64, Work>
-    ensures passes { PassesIf is_new told_before passed (length placing.now.placed, length placing.now.facets.rays) (record { told = told watch.old; patience = patience watch.old; stops = stops watch.old }) (record { told = told watch.new; patience = patience watch.new; stops = stops watch.new }) result }
+    ensures passes { PassesIf is_new told_before passed (length placing.now.placed, length placing.now.facets.rays) (seen watch.old) (seen watch.new) result }
     ensures description { IsTrue is_new → IsDescription placing.now.facets }
 {
     if is_new {
@@ -79,9 +80,9 @@ fn all_placed<T: Scalar>(
 ) -> Result<Placing<T>, Work>
     requires placeable { ArePlaceable width rays.now }
     requires some { rays.now ≢ [] }
-    ensures { MatchResult result (λ p. ArePlacedUpTo width rays.now (length rays.now) p.placed p.cells.items p.facets × HasPassedAll (ArePlacings width rays.now) told_before (record { told = told watch.old; patience = patience watch.old; stops = stops watch.old }) (record { told = told watch.new; patience = patience watch.new; stops = stops watch.new })) (λ e. IsPlaceRefusal T.HALF width rays.now told_before (record { told = told watch.old; patience = patience watch.old; stops = stops watch.old }) (record { told = told watch.new; patience = patience watch.new; stops = stops watch.new }) e) }
+    ensures { MatchResult result (λ p. ArePlacedUpTo width rays.now (length rays.now) p.placed p.cells.items p.facets × HasPassedAll (ArePlacings width rays.now) told_before (seen watch.old) (seen watch.new)) (λ e. IsPlaceRefusal T.HALF width rays.now told_before (seen watch.old) (seen watch.new) e) }
 {
-    let simplex = match independent(alloc, rays, width) {
+    let simplex = match first_rows(alloc, rays, width) {
         Ok(simplex) => simplex,
         Err(refusal) => return Err(left(refusal, told_before, 0)),
     };
@@ -121,7 +122,7 @@ pub fn place<T: Scalar>(
     watch: &mut Box<dyn Watch>,
 ) -> Result<Cover<T>, Work>
     requires { ArePlaceable width rays.now }
-    ensures { MatchResult result (λ c. IsPlaced width rays.now c.simplices c.forms × HasPassedAll (ArePlacings width rays.now) told_before (record { told = told watch.old; patience = patience watch.old; stops = stops watch.old }) (record { told = told watch.new; patience = patience watch.new; stops = stops watch.new })) (λ e. IsPlaceRefusal T.HALF width rays.now told_before (record { told = told watch.old; patience = patience watch.old; stops = stops watch.old }) (record { told = told watch.new; patience = patience watch.new; stops = stops watch.new }) e) }
+    ensures { MatchResult result (λ c. IsPlaced width rays.now c.simplices c.forms × HasPassedAll (ArePlacings width rays.now) told_before (seen watch.old) (seen watch.new)) (λ e. IsPlaceRefusal T.HALF width rays.now told_before (seen watch.old) (seen watch.new) e) }
 {
     if rays.len() == 0 {
         return Ok(Cover {

@@ -1,15 +1,14 @@
 // Placing one ray after another.
-ghost use Rattle.std.specs.Prelude.{◌≡◌, ◌<◌, ◌++◌, ◌∷◌, [], length, get_or, IfOk, IfErr, ◌+◌, MatchResult, IsTrue, ◌↔◌, Contains};
+ghost use Rattle.std.specs.Prelude.{◌≡◌, ◌<◌, ◌++◌, ◌∷◌, [], length, get_or, IfOk, IfErr, ◌+◌, MatchResult, Contains};
 ghost use Rattle.std.specs.List.{AllByRecursion as Each};
 ghost use Rattle.nz_spec.specs.Vectors.{HasWidth};
 ghost use Rattle.nz_pointed.specs.Pointed.{IsSimplexOf, IsTooLarge};
 ghost use Rattle.nz_cover.specs.Placed.{ArePlaced, ArePlacedUpTo, vertices};
 ghost use Rattle.nz_cover.specs.Passing.{PlacesOnce};
-ghost use Rattle.nz_cover.specs.Placing.{ArePlaceable};
 
 use crate::adding::extension;
 use crate::corners::{Cell, Corner};
-use nz_pointed::{Pointed, Simplex, start};
+use nz_pointed::Simplex;
 use nz_rays::Double;
 use nz_vec::{NoMemory, Num, Places, Rows, Scalar};
 use std::alloc::Global;
@@ -59,7 +58,7 @@ impl<T: Scalar> Placing<T> {
         requires placed { ArePlacedUpTo (length (get_or rays.now place [])) rays.now place self.old.placed self.old.cells.items self.old.facets }
         ensures { MatchResult result (λ is_new. PlacesOnce self.old.placed place self.new.placed is_new × ArePlacedUpTo (length (get_or rays.now place [])) rays.now (place + 1) self.new.placed self.new.cells.items self.new.facets) (λ e. e ≡ Num.Range → IsTooLarge T.HALF (length (get_or rays.now place [])) rays.now) }
     {
-        if holds(&self.placed, place) {
+        if self.placed.contains(place) {
             return Ok(false);
         }
         match self.absorb(alloc, rays, place) {
@@ -117,34 +116,4 @@ pub(crate) fn begun<T: Scalar>(
         cells,
         facets,
     })
-}
-
-// Whether the place is among these.
-fn holds(places: &Places, place: usize) -> bool
-    ensures { IsTrue result ↔ Contains places.now place }
-{
-    for index in 0..places.len() {
-        if places.at(index) == place {
-            return true;
-        }
-    }
-    false
-}
-
-/// The first independent rays, which are as many as their entries.
-pub(crate) fn independent<T: Scalar>(
-    alloc: Global,
-    rays: &Rows<T>,
-    width: usize,
-) -> Result<Simplex<T>, Num>
-    requires { ArePlaceable width rays.now }
-    ensures { MatchResult result (λ s. IsSimplexOf width rays.now s.places s.rays) (λ e. e ≡ Num.Range → IsTooLarge T.HALF width rays.now) }
-{
-    match start(alloc, rays, width) {
-        Ok(pointed) => match pointed {
-            Pointed::Simplex(simplex) => Ok(simplex),
-            Pointed::Line(_) => unreachable!(),
-        },
-        Err(refusal) => Err(refusal),
-    }
 }

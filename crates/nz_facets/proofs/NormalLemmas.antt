@@ -26,7 +26,7 @@ use Rattle.nz_range.specs.Measures.{measure, pair_measure}
 use Rattle.nz_range.proofs.Fits.{abs_of_neg}
 use Rattle.nz_pointed.specs.Pointed.{IsTooLarge}
 use Rattle.nz_rays.proofs.PlaceLemmas.{zip_beside}
-use Rattle.nz_facets.proofs.RayLemmas.{IsNormalEitherWay, opposite-dot, entry-opposite, large_vector, large_at}
+use Rattle.nz_rays.proofs.RayLemmas.{IsNormalEitherWay, opposite-dot, entry-opposite, large_vector, large_at}
 
 -- v is the unit form of the column, or its opposite
 abbrev pub IsUnitAt : ℕ → ℕ → Vector → Type 0

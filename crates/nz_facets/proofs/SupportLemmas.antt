@@ -16,7 +16,7 @@ use Rattle.nz_linear.proofs.DescribedCone.{described_cone}
 use Rattle.nz_order.proofs.OrderLaws.{lex_cases}
 use Rattle.nz_order.proofs.SortLaws.{permuted_once}
 use Rattle.nz_degree.specs.Degrees.{IsInOrder}
-use Rattle.nz_facets.specs.Rays.{AreRaysOnce}
+use Rattle.nz_rays.specs.Rays.{AreRaysOnce}
 use Rattle.nz_facets.specs.Members.{HaveMembers}
 
 -- ---- the rows

@@ -6,9 +6,9 @@ ghost use Rattle.nz_spec.specs.Forms.{IsOtherColumn, AreSupportForms, IsDescript
 ghost use Rattle.nz_pointed.specs.Pointed.{IsTooLarge};
 
 use crate::facets::facet_rows;
-use crate::raying::extreme_rays;
 use nz_degree::sort;
 use nz_pointed::{Equations, equations_of};
+use nz_rays::pointed_rays;
 use nz_vec::{Num, Places, Row, Rows, Scalar};
 use std::alloc::Global;
 
@@ -62,9 +62,9 @@ fn support_forms<T: Scalar>(
 {
     let rows = match facet_rows(alloc, width, columns, gens) {
         Ok(rows) => rows,
-        Err(refusal) => return Err(Num::from(refusal)),
+        Err(refusal) => return Err(refusal),
     };
-    let mut support = match extreme_rays(alloc, &rows, width) {
+    let mut support = match pointed_rays(alloc, &rows, width) {
         Ok(support) => support,
         Err(refusal) => return Err(refusal),
     };

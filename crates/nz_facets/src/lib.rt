@@ -8,7 +8,6 @@
 mod constraining;
 mod describing;
 mod facets;
-mod raying;
 
 pub use constraining::{cone_constraints, constraints_of};
 pub use describing::{Description, describe};

@@ -5,3 +5,4 @@ pub mod CutLemmas
 pub mod RangeLemmas
 pub mod FewLemmas
 pub mod WordLemmas
+pub mod RayLemmas

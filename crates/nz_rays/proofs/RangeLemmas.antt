@@ -1,6 +1,6 @@
 -- Where all rays and the row at them are small, no number of a step leaves the type.
 use Rattle.std.proofs.Common.{◌≡◌, ◌⊎◌, inl, inr, ⊎_elim, ℕ, ◌+◌, ◌<◌, List, [], ◌∷◌, length, get_or, ℤ, pos, negsuc, neg_ℤ, ◌+ℤ◌, ◌-ℤ◌, ◌*ℤ◌, ◌≤ℤ◌, sym, ap, ◌∙◌, subst, arith}
-use Rattle.std.specs.Prelude.{unsigned_abs, Result, Ok, Err, MatchResult}
+use Rattle.std.specs.Prelude.{unsigned_abs}
 use Rattle.std.specs.List.{AllByRecursion as Each, Contains}
 use Rattle.std.proofs.lemmas.Int.{ints, by_lt_z}
 use Rattle.std.proofs.lemmas.List.Elements.{Contains-get_or}
@@ -91,10 +91,6 @@ module _ (h : ℤ) (fits : ℤ → Type 0) (room : HasRoom h fits) where
 pub sum_is : (values : Vector) (rays : List Vector) (c : Crossing) (a b : ℤ) (u v s : Vector) → a ≡ get_or values c.above (pos 0) → b ≡ neg_ℤ (get_or values c.below (pos 0)) → u ≡ get_or rays c.below [] → v ≡ get_or rays c.above [] → s ≡ plus (scaled a u) (scaled b v) → s ≡ crossing_sum values rays c
 sum_is values rays c a b u v s ea eb eu ev es = es ∙ ap (λ t. plus (scaled t u) (scaled b v)) ea ∙ ap (λ t. plus (scaled (get_or values c.above (pos 0)) t) (scaled b v)) eu ∙ ap (λ t. plus (scaled (get_or values c.above (pos 0)) (get_or rays c.below [])) (scaled t v)) eb
     ∙ ap (λ t. plus (scaled (get_or values c.above (pos 0)) (get_or rays c.below [])) (scaled (neg_ℤ (get_or values c.below (pos 0))) t)) ev
-
-pub match_map : {A E : Type 0} (P Q : A → Type 0) (S T : E → Type 0) (r : Result A E) → ((x : A) → P x → Q x) → ((e : E) → S e → T e) → MatchResult r P S → MatchResult r Q T
-match_map P Q S T (Ok x) f g h = f x h
-match_map P Q S T (Err e) f g h = g e h
 
 -- 0 - v as the opposite
 pub opposite_is : (a b z v : ℤ) → z ≡ pos 0 → b ≡ z -ℤ a → a ≡ v → b ≡ neg_ℤ v

@@ -3,3 +3,4 @@ pub mod Cuts
 pub mod Descriptions
 pub mod Measures
 pub mod Words
+pub mod Rays

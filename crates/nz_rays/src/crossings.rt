@@ -1,6 +1,6 @@
 // The pairs of adjacent rays on both sides of a new row. Two rays are adjacent where no third one
 // is 0 at all the rows at which both are; this is read off the words of their zero sets.
-ghost use Rattle.std.specs.Prelude.{◌≡◌, pos, ℕ, List, ◌+◌, ◌<◌, ◌<ℤ◌, [], length, get_or, IfOk, IsTrue, ◌↔◌, MatchBool, MatchOption};
+ghost use Rattle.std.specs.Prelude.{◌≡◌, pos, ℕ, List, ◌+◌, ◌<◌, ◌<ℤ◌, [], length, get_or, IfOk, MatchOption};
 ghost use Rattle.std.specs.List.{AllByRecursion as Each};
 ghost use Rattle.nz_spec.specs.Order.{Pairwise, IsListOf};
 ghost use Rattle.nz_rays.specs.Crossings.{AreCommon, HasNoThird, IsCovered, FewAreCovered, AreCrossingsBefore};
@@ -8,7 +8,7 @@ ghost use Rattle.nz_rays.specs.Words.{AreColumns, IsPlaceIn, AreNear, TellsThird
 
 use crate::words::{Column, are_far, covers, have_few, near_places};
 use crate::zero_sets::common;
-use nz_vec::{NoMemory, PlaceLists, Places, Row, Scalar};
+use nz_vec::{NoMemory, PlaceLists, Places, Row, Scalar, is_negative, is_positive};
 use std::alloc::Global;
 
 /// An adjacent pair by the places of its rays, with the places of the rows that are 0 at both.
@@ -17,20 +17,6 @@ pub(crate) struct Crossing {
     pub(crate) above: usize,
     pub(crate) below: usize,
     pub(crate) zeros: Places,
-}
-
-/// Whether a value stands for more than 0.
-pub(crate) fn is_positive<T: Scalar>(value: T) -> bool
-    ensures { IsTrue result ↔ (pos 0 <ℤ T.integer value) }
-{
-    T::of_i64(0) < value
-}
-
-/// Whether a value stands for less than 0.
-pub(crate) fn is_negative<T: Scalar>(value: T) -> bool
-    ensures { IsTrue result ↔ (T.integer value <ℤ pos 0) }
-{
-    value < T::of_i64(0)
 }
 
 // The places at which the value is negative.

@@ -1,5 +1,5 @@
 // The rays after a new row: those on its side, and the sums of adjacent pairs on both sides.
-ghost use Rattle.std.specs.Prelude.{◌≡◌, pos, ℕ, ◌+◌, ◌-◌, ◌<◌, ◌≤ℤ◌, [], length, get_or, IfOk, IsTrue, MatchResult, ◌↔◌};
+ghost use Rattle.std.specs.Prelude.{◌≡◌, pos, ℕ, ◌+◌, ◌-◌, ◌<◌, ◌≤ℤ◌, [], length, get_or, IfOk, MatchResult};
 ghost use Rattle.std.specs.List.{AllByRecursion as Each, AllZip};
 ghost use Rattle.nz_spec.specs.Vectors.{HasWidth};
 ghost use Rattle.nz_spec.specs.Order.{Pairwise, IsListOf};
@@ -9,10 +9,10 @@ ghost use Rattle.nz_rays.specs.Crossings.{AreOnBothSides, FewAreCovered};
 ghost use Rattle.nz_rays.specs.Cuts.{IsKeptAt, IsSum, AreKeptZeros, AreSumZeros, Appends, AreCutZeros, IsCutByValues};
 ghost use Rattle.nz_rays.specs.Measures.{HasLargeRay, IsCrossingWithin};
 
-use crate::crossings::{Crossing, crossings, is_negative};
+use crate::crossings::{Crossing, crossings};
 use crate::words::columns_of;
 use crate::zero_sets::{copied, extended};
-use nz_vec::{NoMemory, Num, PlaceLists, Places, Row, Rows, Scalar};
+use nz_vec::{NoMemory, Num, PlaceLists, Places, Row, Rows, Scalar, is_negative, is_zero};
 use std::alloc::Global;
 
 /// Rays, and for each the places of the rows that are 0 at it.
@@ -54,29 +54,6 @@ fn kept_places<T: Scalar>(alloc: Global, values: &Row<T>) -> Result<Places, NoMe
         }
     }
     Ok(kept)
-}
-
-/// Copies of the rows at these places.
-pub(crate) fn rows_at<T: Scalar>(
-    alloc: Global,
-    rows: &Rows<T>,
-    places: &Places,
-) -> Result<Rows<T>, NoMemory>
-    requires { Each (λ k. k < length rows.now) places.now }
-    ensures { IfOk result (λ r. r ≡ vectors_at rows.now places.now) }
-{
-    let mut copies = Rows::new(alloc);
-    for index in 0..places.len() {
-        let copy = match rows.at(places.at(index)).try_copy() {
-            Ok(copy) => copy,
-            Err(refusal) => return Err(refusal),
-        };
-        match copies.push(copy) {
-            Ok(()) => {}
-            Err(refusal) => return Err(refusal),
-        }
-    }
-    Ok(copies)
 }
 
 // The sum of the rays of a crossing at which the new row is 0, divided at once, since it can be
@@ -152,12 +129,6 @@ fn kept_zeros_of<T: Scalar>(
     } else {
         copied(alloc, zeros.at(place))
     }
-}
-
-fn is_zero<T: Scalar>(value: T) -> bool
-    ensures { IsTrue result ↔ (T.integer value ≡ pos 0) }
-{
-    value == T::of_i64(0)
 }
 
 /// The places at each ray kept.
@@ -265,7 +236,7 @@ fn cut_rays<T: Scalar>(
     requires widths { (i j : ℕ) → i < length rays.now → j < length rays.now → length (get_or rays.now i []) ≡ length (get_or rays.now j []) }
     ensures { MatchResult result (Appends (IsSum values.now rays.now) crossings.now (vectors_at rays.now kept.now)) (λ e. e ≡ Num.Range → ¬ Each (IsCrossingWithin T.HALF values.now rays.now) crossings.now) }
 {
-    let into = match rows_at(alloc, rays, kept) {
+    let into = match rays.at_places(kept) {
         Ok(into) => into,
         Err(refusal) => return Err(Num::from(refusal)),
     };

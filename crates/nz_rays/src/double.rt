@@ -5,7 +5,7 @@ ghost use Rattle.nz_pointed.specs.Pointed.{IsSimplexOf};
 ghost use Rattle.nz_rays.specs.Descriptions.{AreZeros, IsDescription, ListsRays};
 ghost use Rattle.nz_rays.specs.Measures.{HasLargeRay};
 
-use crate::cutting::{cut, rows_at};
+use crate::cutting::cut;
 use crate::zero_sets::all_but;
 use nz_pointed::Simplex;
 use nz_vec::{NoMemory, Num, PlaceLists, Places, Row, Rows, Scalar};
@@ -84,6 +84,14 @@ impl<T: Scalar> Double<T> {
         &self.rays
     }
 
+    /// The primitive extreme rays, given up: this takes no memory.
+    pub fn into_rays(self) -> Rows<T>
+        ensures value { result ≡ self.rays }
+        ensures description { IsDescription self }
+    {
+        self.rays
+    }
+
     /// The places of the rows that are 0 at the ray at this place, increasing.
     pub fn zero_set(&self, place: usize) -> &Places
         requires { place < length self.now.rays }
@@ -104,11 +112,11 @@ fn started<T: Scalar>(
     ensures rays { IfOk result (λ d. (d.rays ≡ simplex.now.rays) × ListsRays d) }
 {
     let width = simplex.places.len();
-    let rows = match rows_at(alloc, rows, &simplex.places) {
+    let rows = match rows.at_places(&simplex.places) {
         Ok(rows) => rows,
         Err(refusal) => return Err(refusal),
     };
-    let rays = match copied_rows(alloc, &simplex.rays) {
+    let rays = match simplex.rays.try_copy() {
         Ok(rays) => rays,
         Err(refusal) => return Err(refusal),
     };
@@ -121,24 +129,6 @@ fn started<T: Scalar>(
         }),
         Err(refusal) => Err(refusal),
     }
-}
-
-// Equal rows.
-fn copied_rows<T: Scalar>(alloc: Global, rows: &Rows<T>) -> Result<Rows<T>, NoMemory>
-    ensures { IfOk result (λ r. r ≡ rows.now) }
-{
-    let mut copies = Rows::new(alloc);
-    for place in 0..rows.len() {
-        let copy = match rows.at(place).try_copy() {
-            Ok(copy) => copy,
-            Err(refusal) => return Err(refusal),
-        };
-        match copies.push(copy) {
-            Ok(()) => {}
-            Err(refusal) => return Err(refusal),
-        }
-    }
-    Ok(copies)
 }
 
 // For each place below `count`, all the others.

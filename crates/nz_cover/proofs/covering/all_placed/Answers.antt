@@ -4,9 +4,16 @@ use Rattle.nz_spec.specs.Vectors.{HasWidth}
 use Rattle.nz_pointed.specs.Pointed.{IsTooLarge}
 use Rattle.nz_rays.proofs.StartLemmas.{simplex_at_width}
 use Rattle.nz_cover.specs.Placed.{ArePlacedUpTo}
+use Rattle.nz_cover.proofs.OrderLemmas.{placeable_pointed}
 use Rattle.nz_cover.proofs.PlacedLemmas.{loop_start, loop_end, width_here}
 use Rattle.nz_cover.proofs.ToldLemmas.{passed_none, refused, no_range, so_far, first_passed, next_passed, all_passed}
 use Rattle.nz_cover.proofs.covering.all_placed.Goals as goal
+
+pub first_rows-requires-clause-widths : goal.first_rows-requires-clause-widths
+first_rows-requires-clause-widths g c = c.requires.placeable.widths
+
+pub first_rows-requires-clause-pointed : goal.first_rows-requires-clause-pointed
+first_rows-requires-clause-pointed g c = placeable_pointed c.args.width c.args.rays.now c.requires.placeable
 
 pub returns-in-Err : goal.returns-in-Err
 returns-in-Err g c = refused g.T.Scalar.HALF c.args.width c.args.rays.now c.args.told_before 0 _ _ c.in-Err.refusal c.left.result (passed_none c.args.width c.args.rays.now c.args.told_before _ c.requires.placeable c.requires.some) c.in-Err.ensures c.left.ensures

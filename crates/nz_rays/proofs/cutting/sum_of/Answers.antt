@@ -6,7 +6,8 @@ use Rattle.nz_vec.specs.declared.answers.Num.TheVariants.{Range}
 use Rattle.nz_vec.specs.Primitives.{IsPrimitivePart}
 use Rattle.nz_rays.specs.Cuts.{IsSum}
 use Rattle.nz_rays.specs.Measures.{IsCrossingWithin}
-use Rattle.nz_rays.proofs.RangeLemmas.{no_combination, no_divisor, sum_is, match_map, opposite_is}
+use Rattle.nz_pointed.proofs.RangeLemmas.{match_map}
+use Rattle.nz_rays.proofs.RangeLemmas.{no_combination, no_divisor, sum_is, opposite_is}
 use Rattle.nz_rays.proofs.cutting.sum_of.Goals as goal
 
 pub returns-in-Ok : goal.returns-in-Ok

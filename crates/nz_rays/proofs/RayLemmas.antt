@@ -10,7 +10,7 @@ use Rattle.nz_spec.specs.Monoids.{IsExtremeRay}
 use Rattle.nz_spec.specs.Covers.{vectors_at}
 use Rattle.nz_spec.specs.Forms.{IsOtherColumn, IsNormalForm}
 use Rattle.nz_spec.proofs.VectorLaws.{IsZero-zero_vector, dot-zero, length-opposite}
-use Rattle.nz_spec.proofs.ListLaws.{Each-contains, Each-from_contains, contains_here, contains_there, contains_cases, contains_none}
+use Rattle.nz_spec.proofs.ListLaws.{Each-contains, Each-from_contains, contains_at, contains_here, contains_there, contains_cases, contains_none}
 use Rattle.nz_spec.proofs.LinearLaws.{HasRank-unique}
 use Rattle.nz_spec.proofs.EquationLaws.{dot_comm, zero_outside_keys}
 use Rattle.nz_linear.specs.DualPairs.{Pair}
@@ -22,7 +22,6 @@ use Rattle.nz_linear.proofs.Ring.{sums}
 use Rattle.nz_linear.proofs.Signs.{sign_cases}
 use Rattle.nz_linear.proofs.Lists.{each_map, each_append, each_left, each_of_map}
 use Rattle.nz_linear.proofs.Division.{primitive_nonzero}
-use Rattle.nz_linear.proofs.Dependence.{complete_length}
 use Rattle.nz_linear.proofs.KeyColumns.{echelon, IsLeft, all_left, columns_are_other}
 use Rattle.nz_linear.proofs.Rank.{rank_of_state, rank_and_left}
 use Rattle.nz_linear.proofs.Spans.{span_member}
@@ -32,15 +31,13 @@ use Rattle.nz_linear.proofs.SupportForms.{support_of_extreme}
 use Rattle.nz_linear.proofs.FacetRows.{satisfies_valid, valid_satisfies}
 use Rattle.nz_range.specs.Measures.{measure, pair_measure}
 use Rattle.nz_range.proofs.Fits.{measure_opposite, pair_measure_opposite}
-use Rattle.nz_range.proofs.Causes.{each_own}
-use Rattle.nz_pointed.specs.Pointed.{paired, IsNew, IsLineOf, IsSimplexOf, IsTooLarge}
-use Rattle.nz_pointed.proofs.ListLemmas.{each_at}
+use Rattle.nz_pointed.specs.Pointed.{IsNew, IsLineOf, IsSimplexOf, IsTooLarge}
 use Rattle.nz_pointed.proofs.SignLemmas.{dot-opposite, primitive_opposite}
 use Rattle.nz_rays.specs.Descriptions.{RowsAndRays, IsDescription, ListsRays}
 use Rattle.nz_rays.specs.Measures.{HasLargeRay}
-use Rattle.nz_rays.proofs.PlaceLemmas.{below_next}
-use Rattle.nz_rays.proofs.StartLemmas.{simplex_description}
-use Rattle.nz_facets.specs.Rays.{AreRaysOnce}
+use Rattle.nz_rays.proofs.PlaceLemmas.{below_next, zip_length}
+use Rattle.nz_rays.proofs.StartLemmas.{simplex_description, simplex_width}
+use Rattle.nz_rays.specs.Rays.{AreRaysOnce}
 
 -- ---- pointed rows
 pub no_line : (w : ℕ) (rows : List Vector) (v : Vector) → IsPointed w rows → IsLineOf w rows v → ⊥
@@ -56,12 +53,6 @@ none_left w rows (c ∷ columns) (p ∷ free) pt z =
     let k = z.0.positive in
     absurd (let b : ⊥ = omega (arith, ints, v, k) in b)
 
-same_length : {A B : Type 0} (R : A → B → Type 0) (xs : List A) (ys : List B) → AllZip R xs ys → length xs ≡ length ys
-same_length R [] [] z = refl
-same_length R [] (y ∷ ys) z = absurd z
-same_length R (x ∷ xs) [] z = absurd z
-same_length R (x ∷ xs) (y ∷ ys) z = ap suc (same_length R xs ys z.1)
-
 -- all columns are key columns
 pub pointed_keys : (w : ℕ) (rows : List Vector) → Each (HasWidth w) rows → IsPointed w rows → IsListOf ◌<◌ (IsOtherColumn w rows) []
 pointed_keys w rows l pt =
@@ -74,7 +65,7 @@ pointed_rank w rows l pt =
     let a = echelon w rows l in
     let z = all_left w rows a.columns a.chosen a.free a.state a.are_columns in
     let n = ap length (none_left w rows a.columns a.free pt z) in
-    let m = same_length (IsLeft w rows) a.columns a.free z in
+    let m = zip_length (IsLeft w rows) a.columns a.free z in
     let s = rank_and_left w rows a.chosen a.free a.state in
     subst (HasRank w (Contains rows)) (omega (arith, n, m, s)) (rank_of_state w rows a.chosen a.free l a.state)
 
@@ -95,7 +86,7 @@ one_other w vs l free size =
     let base : HasRank w (Contains vs) (length vs) = record { base = vs; size = refl; members = Each-from_contains (Contains vs) vs (λ y c. c); independent = free; all = λ y c. span_member w vs y l c } in
     let same = HasRank-unique w (Contains vs) (length a.chosen) (length vs) (λ y c. Each-contains (HasWidth w) vs y l c) (rank_of_state w vs a.chosen a.free l a.state) base in
     let s = rank_and_left w vs a.chosen a.free a.state in
-    let m = same_length (IsLeft w vs) a.columns a.free (all_left w vs a.columns a.chosen a.free a.state a.are_columns) in
+    let m = zip_length (IsLeft w vs) a.columns a.free (all_left w vs a.columns a.chosen a.free a.state a.are_columns) in
     by a.columns (omega (arith, same, s, m, size)) (columns_are_other w vs a.columns a.chosen a.free l a.state a.are_columns)
   where
     by : (columns : List ℕ) → length columns ≡ 1 → IsListOf ◌<◌ (IsOtherColumn w vs) columns → OneOther w vs
@@ -152,10 +143,7 @@ ray_normal w rows r l pt y =
     ]
 
 -- ---- what is held while the rows are added
-contains_place : (rows : List Vector) (k : ℕ) → k < length rows → Contains rows (get_or rows k [])
-contains_place rows k l = each_at (Contains rows) [] rows k (each_own rows) l
-
-each_by_place : {A : Type 0} (P : A → Type 0) (d : A) (xs : List A) → ((k : ℕ) → k < length xs → P (get_or xs k d)) → Each P xs
+pub each_by_place : {A : Type 0} (P : A → Type 0) (d : A) (xs : List A) → ((k : ℕ) → k < length xs → P (get_or xs k d)) → Each P xs
 each_by_place P d [] f = tt
 each_by_place P d (x ∷ xs) f = (f 0 (omega arith), each_by_place P d xs (λ k l. f (suc k) (omega arith)))
 
@@ -168,26 +156,6 @@ pub record IsHeld (w : ℕ) (rows : List Vector) (places : List ℕ) (count : �
   pub chosen : Each (λ p. Contains d.rows (get_or rows p [])) places
   pub has : (k : ℕ) → k < count → Contains d.rows (get_or rows k [])
 
-length-paired : (fs vs : List Vector) → length vs ≡ length fs → length (paired fs vs) ≡ length fs
-length-paired [] vs l = refl
-length-paired (f ∷ fs) [] l = absurd (let b : ⊥ = omega arith in b)
-length-paired (f ∷ fs) (v ∷ vs) l = ap suc (length-paired fs vs (omega arith))
-
-length_at : (rows : List Vector) (places : List ℕ) → length (vectors_at rows places) ≡ length places
-length_at rows [] = refl
-length_at rows (p ∷ places) = ap suc (length_at rows places)
-
-pub simplex_size : (w : ℕ) (rows rays : List Vector) (places : List ℕ) → IsSimplexOf w rows places rays → length places ≡ w
-simplex_size w rows rays places s =
-    let fs = vectors_at rows places in
-    let l = length_at rows places in
-    let n = length-paired fs rays (s.one_each ∙ sym l) in
-    let m = complete_length w (paired fs rays) s.dual s.only_zero in
-    omega (arith, l, n, m)
-
-pub simplex_whole : (w : ℕ) (rows rays : List Vector) (places : List ℕ) → IsSimplexOf w rows places rays → IsSimplexOf (length places) rows places rays
-simplex_whole w rows rays places s = subst (λ (n : ℕ). IsSimplexOf n rows places rays) (sym (simplex_size w rows rays places s)) s
-
 listed_at : (rows : List Vector) (places : List ℕ) → Each (λ p. Contains (vectors_at rows places) (get_or rows p [])) places
 listed_at rows [] = tt
 listed_at rows (p ∷ places) = (
@@ -197,10 +165,10 @@ listed_at rows (p ∷ places) = (
 
 pub held_start : (w : ℕ) (rows rays : List Vector) (places : List ℕ) (d : RowsAndRays) → IsSimplexOf w rows places rays → d.width ≡ length places → d.rows ≡ vectors_at rows places → ListsRays d → IsHeld w rows places 0 d
 held_start w rows rays places d s ew er lists = record {
-  width = ew ∙ simplex_size w rows rays places s;
+  width = ew ∙ sym (simplex_width w rows rays places s);
   rays = lists;
   pointed = subst (IsPointed w) (sym er) (simplex_description w rows rays places s).pointed;
-  only = subst (Each (Contains rows)) (sym er) (each_of_map (λ p. get_or rows p []) (Contains rows) places (each_map (IsNew w rows) (λ p. Contains rows (get_or rows p [])) places (λ p k. contains_place rows p k.within) s.first.only));
+  only = subst (Each (Contains rows)) (sym er) (each_of_map (λ p. get_or rows p []) (Contains rows) places (each_map (IsNew w rows) (λ p. Contains rows (get_or rows p [])) places (λ p k. contains_at rows p [] k.within) s.first.only));
   chosen = subst (λ (vs : List Vector). Each (λ p. Contains vs (get_or rows p [])) places) (sym er) (listed_at rows places);
   has = λ k l. absurd (let b : ⊥ = omega (arith, l) in b);
 }
@@ -224,7 +192,7 @@ held_add w rows places i row d new within e s lists h =
       width = s.0 ∙ h.width;
       rays = lists;
       pointed = λ x lx z. h.pointed x lx (each_left (λ a. dot a x ≡ pos 0) d.rows (row ∷ []) (subst (Each (λ a. dot a x ≡ pos 0)) s.1 z));
-      only = subst (Each (Contains rows)) (sym s.1) (each_append (Contains rows) d.rows (row ∷ []) h.only (subst (Contains rows) (sym e) (contains_place rows i within), tt));
+      only = subst (Each (Contains rows)) (sym s.1) (each_append (Contains rows) d.rows (row ∷ []) h.only (subst (Contains rows) (sym e) (contains_at rows i [] within), tt));
       chosen = each_map (λ p. Contains d.rows (get_or rows p [])) (λ p. Contains new.rows (get_or rows p [])) places (λ p c. more (get_or rows p []) c) h.chosen;
       has = λ k l. ⊎_elim (λ b. more (get_or rows k []) (h.has k b)) (λ q. subst (Contains new.rows) (e ∙ ap (λ n. get_or rows n []) (sym q)) last) (below_next k i l);
     }
@@ -266,5 +234,5 @@ held_large h w rows places i row d l within e k large =
     let normal : IsNormalEitherWay w rows v = ⊎_elim (λ a. inl (normal_among w d.rows rows v k.only a)) (λ a. inr (normal_among w d.rows rows (opposite v) k.only a)) n in
     ⊎_elim
     (λ m. large_vector h w rows v normal m)
-    (λ m. large_at h w rows row v (subst (Contains rows) (sym e) (contains_place rows i within)) normal m)
+    (λ m. large_at h w rows row v (subst (Contains rows) (sym e) (contains_at rows i [] within)) normal m)
     large.large
