@@ -1,32 +1,25 @@
 -- The rows of a list by their places, and what is picked of them.
-use Rattle.std.proofs.Common.{◌≡◌, ℕ, zero, suc, ◌+◌, ◌<◌, ◌≤◌, List, [], ◌∷◌, ◌++◌, length, take, get_or, ℤ, pos, sym, ap, ◌∙◌, subst, arith, take_all}
+use Rattle.std.proofs.Common.{◌≡◌, ℕ, suc, ◌+◌, ◌<◌, ◌≤◌, List, [], ◌∷◌, ◌++◌, length, take, get_or, ℤ, pos, sym, ap, ◌∙◌, subst, arith, take_all}
 use Rattle.std.specs.Prelude.{Contains}
-use Rattle.std.proofs.lemmas.List.{take_more, get_or_default}
+use Rattle.std.proofs.lemmas.List.{take_more}
 use Rattle.std.specs.List.{AllByRecursion as Each}
 use Rattle.nz_spec.specs.Vectors.{Vector, HasWidth}
+use Rattle.nz_spec.proofs.ListLaws.{each_at, contains_at}
 use Rattle.nz_vec.specs.Sums.{SumsFit}
 use Rattle.nz_order.specs.Picks.{Picks}
 use Rattle.nz_order.proofs.SortLaws.{Picks-keep, Picks-skip}
 use Rattle.nz_degree.specs.Degrees.{LacksDegree}
 
-pub each_at : {A : Type 0} (P : A → Type 0) (xs : List A) (k : ℕ) (d : A) → Each P xs → k < length xs → P (get_or xs k d)
-each_at P [] k d h l = absurd (omega (arith, l))
-each_at P (x ∷ xs) zero d h l = h.0
-each_at P (x ∷ xs) (suc k) d h l = each_at P xs k d h.1 (omega (arith, l))
-
 pub each_from : {A : Type 0} (P : A → Type 0) (xs : List A) (d : A) → ((k : ℕ) → k < length xs → P (get_or xs k d)) → Each P xs
 each_from P [] d h = tt
 each_from P (x ∷ xs) d h = (h 0 (omega arith), each_from P xs d (λ k l. h (suc k) (omega (arith, l))))
-
-pub contains_at : (list : List Vector) (k : ℕ) → k < length list → Contains list (get_or list k [])
-contains_at list k l = (k, l, get_or_default list k (get_or list k []) [] l)
 
 -- the width of the row at a place
 pub width_at : (w : ℕ) (list : List Vector) (k : ℕ) (row : Vector) → Each (HasWidth w) list → k < length list → row ≡ get_or list k [] → w ≡ length row
 width_at w list k row h l e = sym (ap length e ∙ each_at (HasWidth w) list k [] h l)
 
 pub lacks_at : (fits : ℤ → Type 0) (grading : Vector) (list : List Vector) (k : ℕ) (row : Vector) → k < length list → row ≡ get_or list k [] → (¬ SumsFit fits (pos 0) grading row) → LacksDegree fits grading list
-lacks_at fits grading list k row l e n = record { row = row; listed = subst (Contains list) (sym e) (contains_at list k l); lacks = n }
+lacks_at fits grading list k row l e n = record { row = row; listed = subst (Contains list) (sym e) (contains_at list k [] l); lacks = n }
 
 -- one row more of the list: a copy of it is picked, or it is left out
 pub picked_next : (Q : Vector → Type 0) (list picked more : List Vector) (k : ℕ) (row copy : Vector) → k < length list → row ≡ get_or list k [] → Q row → copy ≡ row → more ≡ picked ++ copy ∷ [] → Picks Q (take k list) picked → Picks Q (take (k + 1) list) more

@@ -8,13 +8,13 @@ use Rattle.std.proofs.lemmas.Int.{ints, by_lt_z}
 use Rattle.std.specs.List.{AllByRecursion as Each}
 use Rattle.nz_spec.specs.Vectors.{Vector, HasWidth}
 use Rattle.nz_spec.specs.Order.{degree, StandsBefore, IsLexBefore}
-use Rattle.nz_spec.proofs.ListLaws.{Each-contains}
+use Rattle.nz_spec.proofs.ListLaws.{Each-contains, each_at, contains_at}
 use Rattle.nz_order.proofs.OrderLaws.{lex_irreflexive, lex_transitive, stands_irreflexive, stands_transitive, stands_cases}
 use Rattle.nz_vec.specs.Comparisons.{Compares}
 use Rattle.nz_degree.specs.Positivities.{Tells, ComesFirst, IsFoundIn}
 use Rattle.nz_degree.specs.declared.positivity.Positivity.{Positivity}
 use Rattle.nz_degree.specs.declared.positivity.Positivity.TheVariants.{Positive, NotPositive}
-use Rattle.nz_degree.proofs.DegreeLists.{each_at, each_from, contains_at}
+use Rattle.nz_degree.proofs.DegreeLists.{each_from}
 
 -- a comparison tells whether the one is before the other
 pub before_or_not : (x y : Vector) (o : Ordering) → Compares x y o → MatchBool (is_lt o) (IsLexBefore x y) (¬ IsLexBefore x y)
@@ -98,7 +98,7 @@ found_all grading list k (NotPositive p) least wide e f =
     record {
       inside = inside;
       first = record {
-        has = record { listed = contains_at list p inside; not_positive = f.0.not_positive };
+        has = record { listed = contains_at list p [] inside; not_positive = f.0.not_positive };
         before = λ y h n. elim (stands_cases (Some grading) (get_or list p []) y (each_at (HasWidth (length grading)) list p [] wide inside ∙ sym (Each-contains (HasWidth (length grading)) list y wide h.listed))) [
           | inl b ↦ b
           | inr (inl s) ↦ absurd (n (sym s))

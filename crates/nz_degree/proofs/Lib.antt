@@ -2,3 +2,4 @@ pub mod DegreeLists
 pub mod Firsts
 pub mod RankLaws
 pub mod ElementLaws
+pub mod LevelLists

@@ -1,9 +1,9 @@
 -- Rows with their ranks, sorted.
-use Rattle.std.proofs.Common.{◌≡◌, ℕ, suc, ◌+◌, ◌<◌, ◌≤◌, false, List, [], ◌∷◌, ◌++◌, length, take, get_or, map, ℤ, pos, Some, None, inl, inr, refl, sym, ap, ◌∙◌, subst, arith}
+use Rattle.std.proofs.Common.{◌≡◌, ℕ, suc, ◌+◌, ◌<◌, ◌≤◌, false, List, [], ◌∷◌, length, take, get_or, map, ℤ, pos, Some, None, inl, inr, refl, sym, ap, ◌∙◌, subst, arith}
 use Rattle.std.specs.Prelude.{◌<ℤ◌, IfOk}
 use Rattle.std.specs.declared.result.Result.{Result}
 use Rattle.std.specs.declared.result.Result.TheVariants.{Ok, Err}
-use Rattle.std.proofs.lemmas.List.{take_more, take_all, map-append}
+use Rattle.std.proofs.lemmas.List.{take_all}
 use Rattle.std.specs.List.{AllByRecursion as Each}
 use Rattle.std.specs.List.Sorted.{IsPermutation, IsSorted}
 use Rattle.std.specs.Ordering.{is_lt, int_cmp, ordering_then}
@@ -17,7 +17,7 @@ use Rattle.std.proofs.lemmas.List.Sorted.{sorted_far, ranks_by, IsPermutation-ma
 use mathlib.Core.Bool.{true≢false}
 use Rattle.nz_spec.specs.Vectors.{Vector}
 use Rattle.nz_spec.specs.Order.{IsLexBefore, StandsBefore, Pairwise, degree}
-use Rattle.nz_spec.proofs.ListLaws.{Each-contains, Each-from_contains}
+use Rattle.nz_spec.proofs.ListLaws.{Each-contains, Each-from_contains, pushed}
 use Rattle.nz_order.proofs.OrderLaws.{Each-push}
 use Rattle.nz_degree.specs.Ranks.{row_of, key_of, AreRanked, Adds, IsSortedAs}
 use Rattle.nz_degree.specs.declared.ranked.Ranked.{Ranked}
@@ -26,10 +26,6 @@ use Rattle.nz_degree.specs.declared.ranked.Ranked.{Ranked}
 pub if_ok_map : {A E : Type 0} (P Q : A → Type 0) (r : Result A E) → ((a : A) → P a → Q a) → IfOk r P → IfOk r Q
 if_ok_map P Q (Ok a) f h = f a h
 if_ok_map P Q (Err e) f h = tt
-
--- what has been pushed is what the list has up to there
-pub pushed : {A B : Type 0} (f : A → B) (done : List A) (x : A) (xs : List B) (i : ℕ) (d : B) → i < length xs → map f done ≡ take i xs → f x ≡ get_or xs i d → map f (done ++ x ∷ []) ≡ take (i + 1) xs
-pushed f done x xs i d l h e = map-append f done (x ∷ []) ∙ ap (λ (p : List _). p ++ f x ∷ []) h ∙ ap (λ (z : _). take i xs ++ z ∷ []) e ∙ sym (take_more xs i d l)
 
 module _ {T : Type 0} (integer : T → ℤ) where
   -- one row more, with its rank

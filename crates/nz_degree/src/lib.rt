@@ -1,12 +1,13 @@
-//! Degrees of elements: whether all are positive, the elements of degree 1, and the order by degree.
-//! Its contract: `check` names the first element of degree 0 or less, `degree_one` picks, and `sort` leaves the same rows in order.
+//! Degrees and levels of elements: whether all degrees are positive, the elements of degree 1, the order by degree, and the elements of level 0 and of level 1.
+//! Its contract: `check` names the first element of degree 0 or less, `degree_one` and `split` pick in the order of the list, and `sort` leaves the same rows in order.
 //! Below it stand the definitions, the lemmas on orders of `nz_order`, and the rows of `nz_vec`.
-//! A solver puts each list that it writes into this order, and refuses a grading that is not positive.
-//! Start with `specs/Degrees.antt`, then `check`.
+//! The solvers put each list that they write into this order, refuse a grading that is not positive, and split the irreducible elements of a file with a level into its Hilbert basis and its module generators.
+//! Start with `specs/Degrees.antt`, then `check`; for the levels with `specs/Levels.antt`, then `split`.
 #![tactic(auto)]
 
 mod checking;
 mod elements;
+mod levels;
 mod picking;
 mod positivity;
 mod ranked;
@@ -14,6 +15,7 @@ mod sorting;
 
 pub use checking::check;
 pub use elements::degrees_are_elements;
+pub use levels::{Levels, levels_are_elements, split};
 pub use picking::degree_one;
 pub use positivity::Positivity;
 pub use sorting::sort;

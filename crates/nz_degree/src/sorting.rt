@@ -47,7 +47,7 @@ fn graded<T: Scalar>(alloc: Global, list: &Rows<T>, grading: &Row<T>) -> Result<
             Some(degree) => degree,
             None => return Err(Num::Range),
         };
-        add(alloc, &mut ranked, row, degree)?;
+        add(&mut ranked, row, degree)?;
     }
     Ok(ranked)
 }
@@ -58,36 +58,19 @@ fn ungraded<T: Scalar>(alloc: Global, list: &Rows<T>) -> Result<Vec<Ranked<T>>, 
 {
     let mut ranked = Vec::new(alloc);
     for place in 0..list.len() {
-        add(alloc, &mut ranked, list.at(place), T::of_i64(0))?;
+        add(&mut ranked, list.at(place), T::of_i64(0))?;
     }
     Ok(ranked)
 }
 
-fn add<T: Scalar>(
-    alloc: Global,
-    ranked: &mut Vec<Ranked<T>>,
-    row: &Row<T>,
-    degree: T,
-) -> Result<(), NoMemory>
+fn add<T: Scalar>(ranked: &mut Vec<Ranked<T>>, row: &Row<T>, degree: T) -> Result<(), NoMemory>
     ensures { OnOk result (Adds T.integer ranked.old.items ranked.new.items row.now degree) }
 {
-    let entries = entries_of(alloc, row)?;
+    let entries = row.try_copy()?.into_vec();
     match ranked.push(Ranked { degree, entries }) {
         Ok(()) => Ok(()),
         Err(_) => Err(NoMemory),
     }
-}
-
-fn entries_of<T: Scalar>(alloc: Global, row: &Row<T>) -> Result<Vec<T>, NoMemory>
-    ensures { IfOk result (λ v. map T.integer v.items ≡ row.now) }
-{
-    let mut entries = Vec::new(alloc);
-    for column in 0..row.len() {
-        if entries.push(row.at(column)).is_err() {
-            return Err(NoMemory);
-        }
-    }
-    Ok(entries)
 }
 
 // Puts the rows in the place of the list, sorted.

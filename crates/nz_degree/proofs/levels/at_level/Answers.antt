@@ -1,10 +1,11 @@
 use Rattle.std.proofs.Common.{◌<◌, ◌+◌, List, [], length, take, sym, subst, arith}
 use Rattle.nz_spec.specs.Vectors.{Vector}
+use Rattle.nz_spec.proofs.ListLaws.{each_at}
 use Rattle.nz_order.specs.Picks.{Picks, none}
-use Rattle.nz_module.specs.Levels.{IsAtLevel, HasEntry}
-use Rattle.nz_module.proofs.LevelLists.{each_at, picked_next, left_next, picked_all}
-use Rattle.nz_module.proofs.levels.rows_at.Goals as goal
-use Rattle.nz_module.proofs.levels.rows_at.Goals.{then-is_at+in_ok-try_copy+in_ok-push, else-is_at}
+use Rattle.nz_degree.specs.Levels.{IsAtLevel, HasEntry}
+use Rattle.nz_degree.proofs.DegreeLists.{picked_next, left_next, picked_all}
+use Rattle.nz_degree.proofs.levels.at_level.Goals as goal
+use Rattle.nz_degree.proofs.levels.at_level.Goals.{then-is_at+in_ok-try_copy+in_ok-push, else-is_at}
 
 pub loop-place-init : goal.loop-place-init
 loop-place-init g c = subst (λ (xs : List Vector). Picks (IsAtLevel (g.T.Scalar.integer c.args.level)) (take 0 c.args.list.now) xs) (sym c.new-picked.ensures) none

@@ -2,7 +2,7 @@ ghost use Rattle.std.specs.Prelude.{◌≡◌, ◌≢◌, ◌≤◌, ◌<◌, �
 ghost use Rattle.std.specs.List.{AllByRecursion as Each};
 ghost use Rattle.nz_spec.specs.Vectors.{Vector};
 ghost use Rattle.nz_order.specs.Picks.{Picks};
-ghost use Rattle.nz_module.specs.Levels.{IsAtLevel, HasEntry, LevelsAreElements};
+ghost use Rattle.nz_degree.specs.Levels.{IsAtLevel, HasEntry, LevelsAreElements};
 
 use nz_vec::{NoMemory, Row, Rows, Scalar};
 use std::alloc::Global;
@@ -20,8 +20,8 @@ pub fn split<T: Scalar>(alloc: Global, list: &Rows<T>) -> Result<Levels<T>, NoMe
     ensures zero { IfOk result (λ levels. Picks (IsAtLevel (pos 0)) list.now levels.zero) }
     ensures one { IfOk result (λ levels. Picks (IsAtLevel (pos 1)) list.now levels.one) }
 {
-    let zero = rows_at(alloc, list, T::of_i64(0))?;
-    let one = rows_at(alloc, list, T::of_i64(1))?;
+    let zero = at_level(alloc, list, T::of_i64(0))?;
+    let one = at_level(alloc, list, T::of_i64(1))?;
     Ok(Levels { zero, one })
 }
 
@@ -32,7 +32,7 @@ pub fn levels_are_elements()
 {}
 
 // The rows of this level.
-fn rows_at<T: Scalar>(alloc: Global, list: &Rows<T>, level: T) -> Result<Rows<T>, NoMemory>
+fn at_level<T: Scalar>(alloc: Global, list: &Rows<T>, level: T) -> Result<Rows<T>, NoMemory>
     requires { Each HasEntry list.now }
     ensures { IfOk result (Picks (IsAtLevel (T.integer level)) list.now) }
 {

@@ -1,7 +1,7 @@
 use Rattle.std.proofs.Common.{◌≡◌, ℤ, ◌-◌, get_or, ◌∙◌, ap, subst, pos}
 use Rattle.std.specs.Prelude.{MatchBool}
-use Rattle.nz_module.proofs.LevelLists.{level_entry}
-use Rattle.nz_module.proofs.levels.is_at.Goals as goal
+use Rattle.nz_degree.proofs.LevelLists.{level_entry}
+use Rattle.nz_degree.proofs.levels.is_at.Goals as goal
 
 pub returns : goal.returns
 returns g c =

@@ -1,5 +1,0 @@
-use Rattle.nz_module.proofs.LevelLists.{elements_of_levels}
-use Rattle.nz_module.proofs.levels.levels_are_elements.Goals as goal
-
-pub returns : goal.returns
-returns c = elements_of_levels
