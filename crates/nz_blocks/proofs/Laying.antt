@@ -12,11 +12,6 @@ use Rattle.nz_spec.specs.Vectors.{Vector}
 use Rattle.nz_blocks.specs.Columns.{column_width, width_at_only, right_aligned, gap, cells, spaced}
 use Rattle.nz_blocks.specs.AskedLines.{count_word, count_words}
 
-pub each_at : {X : Type 0} (P : X → Type 0) (xs : List X) (k : ℕ) (d : X) → Each P xs → k < length xs → P (get_or xs k d)
-each_at P [] k d h l = absurd (omega arith)
-each_at P (x ∷ xs) zero d h l = h.0
-each_at P (x ∷ xs) (suc k) d h l = each_at P xs k d h.1 (omega arith)
-
 pub take_more : {X : Type 0} (xs : List X) (k : ℕ) (d : X) → k < length xs → take (k + 1) xs ≡ take k xs ++ get_or xs k d ∷ []
 take_more xs k d l = rw add-one (take-suc xs k d l)
 

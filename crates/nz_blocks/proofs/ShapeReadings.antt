@@ -2,15 +2,11 @@
 use Rattle.std.proofs.Common.{◌≡◌, ℕ, zero, suc, ◌+◌, ◌<◌, ◌≤◌, List, [], ◌∷◌, ◌++◌, length, get_or, take, map, refl, sym, ap, ap₂, subst, ◌∙◌, arith, take_all, length-append, IfSome}
 use Rattle.std.proofs.lemmas.List.{get_or-map, length-map}
 use Rattle.std.specs.List.{AllByRecursion as Each}
+use Rattle.nz_spec.proofs.ListLaws.{each_at}
 use Rattle.nz_blocks.specs.Outcomes.{OutcomeData, IsOutcome, IsAsked, number}
 use Rattle.nz_blocks.specs.Shapes.{IsShaped}
 use Rattle.nz_blocks.proofs.Laying.{take_more}
 use Rattle.nz_blocks.proofs.NumberTexts.{each_both}
-
-pub each_at : {X : Type 0} (P : X → Type 0) (xs : List X) (k : ℕ) (d : X) → Each P xs → k < length xs → P (get_or xs k d)
-each_at P [] k d h l = absurd (omega (arith, l))
-each_at P (x ∷ xs) zero d h l = h.0
-each_at P (x ∷ xs) (suc k) d h l = each_at P xs k d h.1 (omega (arith, l))
 
 pub each_more : {X : Type 0} (P : X → Type 0) (xs : List X) (k : ℕ) (d : X) → k < length xs → Each P (take k xs) → P (get_or xs k d) → Each P (take (k + 1) xs)
 each_more P xs k d l h p = subst (Each P) (sym (take_more xs k d l)) (each_both P (take k xs) (get_or xs k d ∷ []) h (p, tt))

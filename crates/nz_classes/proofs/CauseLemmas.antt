@@ -7,7 +7,7 @@ use Rattle.std.proofs.Math.IntN.{*ℤ_comm}
 use Rattle.std.specs.List.{AllByRecursion as Each, AllZip}
 use Rattle.nz_spec.specs.Vectors.{Vector, dot, plus, minus, scaled, opposite, combination, values_at, entry, zero_vector, HasWidth}
 use Rattle.nz_spec.specs.Boxes.{IsFloor}
-use Rattle.nz_spec.proofs.ListLaws.{contains_here, contains_there}
+use Rattle.nz_spec.proofs.ListLaws.{contains_here, contains_there, contains_at}
 use Rattle.nz_order.proofs.OrderLaws.{nat_compare}
 use Rattle.nz_linear.specs.DualPairs.{Pair, pair_of, divisor, HasWidths, IsDual, IsCompleteOn, product, spread_factors}
 use Rattle.nz_linear.specs.Echelon.{unit_at}
@@ -20,16 +20,15 @@ use Rattle.nz_linear.proofs.Units.{dot-unit_at, length-unit_at, unit_at_listed}
 use Rattle.nz_spec.proofs.IntLaws.{mul-nonneg}
 use Rattle.nz_scalar.specs.Room.{IsWithin, HasRoom}
 use Rattle.nz_vec.specs.Combinations.{CombinationFits}
-use Rattle.nz_vec.specs.Sums.{SumsFit}
+use Rattle.nz_vec.specs.Sums.{SumsFit, HasValueOutside}
 use Rattle.nz_vec.proofs.RoomLemmas.{combination_fits}
 use Rattle.nz_classes.specs.Classes.{HasReducedValues}
-use Rattle.nz_classes.specs.Steps.{HasValueOutside, HasSumOutside, HasPairOutside, HasColumnOutside, AreCarries, IsCarry, products, column_terms}
+use Rattle.nz_classes.specs.Steps.{HasSumOutside, HasPairOutside, HasColumnOutside, AreCarries, IsCarry, products, column_terms}
 use Rattle.nz_classes.specs.Sums.{sum_of}
 use Rattle.nz_classes.specs.Walks.{paired, IsFullSimplex, IsNamed, IsTooLarge}
 use Rattle.nz_range.specs.Measures.{measure, pair_measure}
 use Rattle.nz_classes.proofs.EntryLemmas.{column_sum}
 use Rattle.nz_classes.proofs.SimplexLemmas.{vectors-paired, length-paired, pair_at, zip_at, form_width, divisor_positive, reduced_at, value_at, sides_wide}
-use Rattle.nz_classes.proofs.SortLemmas.{contains_at}
 use Rattle.nz_classes.proofs.WalkLemmas.{point_of}
 
 -- ---- sizes

@@ -4,8 +4,8 @@ use Rattle.std.proofs.lemmas.Int.{ints}
 use Rattle.std.proofs.lemmas.List.{append-nil, length-map, map-append, get_or-map, get_or_append_left, take_more, take_all}
 use Rattle.std.proofs.Math.Seq.{get_or-append_seam}
 use Rattle.std.specs.List.{AllByRecursion as Each}
-use Rattle.nz_spec.specs.Vectors.{Vector, dot, plus, minus, scaled, opposite, combination, zero_vector, values_at, entry, HasWidth}
-use Rattle.nz_spec.proofs.ListLaws.{contains_cases, contains_none}
+use Rattle.nz_spec.specs.Vectors.{Vector, dot, plus, minus, scaled, opposite, combination, zero_vector, entry, HasWidth}
+use Rattle.nz_spec.proofs.ListLaws.{contains_cases, contains_none, contains_at, each_at}
 use Rattle.nz_spec.proofs.SumLaws.{length-combination}
 use Rattle.nz_spec.proofs.VectorLaws.{length-minus, plus_assoc, one-scaled}
 use Rattle.nz_linear.specs.DualPairs.{pair_of, divisor}
@@ -16,13 +16,13 @@ use Rattle.nz_linear.proofs.VectorLaws.{cons_same, length-plus, length-scaled, p
 use Rattle.nz_scalar.specs.Division.{IsFloorQuotient}
 use Rattle.nz_scalar.specs.Exact.{GivesSuch}
 use Rattle.nz_vec.specs.Combinations.{CombinationFits}
+use Rattle.nz_vec.specs.Sums.{HasValueOutside}
 use Rattle.nz_vec.specs.declared.answers.Num.{Num}
 use Rattle.nz_vec.specs.declared.answers.Num.TheVariants.{Range, NoMemory}
-use Rattle.nz_classes.specs.Steps.{HasValueOutside, HasSumOutside, HasPairOutside, IsCarry, products, column_terms}
+use Rattle.nz_classes.specs.Steps.{HasSumOutside, HasPairOutside, IsCarry, products, column_terms}
 use Rattle.nz_classes.specs.Sums.{sum_of, IsSumRefusal}
 use Rattle.nz_classes.specs.Walks.{paired}
 use Rattle.nz_classes.proofs.SimplexLemmas.{length-paired, pair_at}
-use Rattle.nz_classes.proofs.SortLemmas.{each_at, contains_at}
 
 -- ---- one more
 pub row_more : {A B : Type 0} (f : A → B) (xs : List A) (i : ℕ) (d : A) (done : List B) (b : B) (new : List B) → i < length xs → done ≡ take i (map f xs) → b ≡ f (get_or xs i d) → new ≡ done ++ b ∷ [] → new ≡ take (i + 1) (map f xs)
@@ -53,9 +53,6 @@ each_push P int old new q i l n h p j m = by (earlier j i m)
         subst (λ (k : ℕ). P k (entry (map int new) j)) (sym e) (subst (P i) (sym a) p)
 
 -- ---- values
-pub value_entry : (forms : List Vector) (x : Vector) (i : ℕ) → i < length forms → get_or (values_at forms x) i (pos 0) ≡ dot (get_or forms i []) x
-value_entry forms x i l = get_or-map (λ f. dot f x) forms i [] (pos 0) l
-
 pub divisor_entry : (fs vs : List Vector) (i : ℕ) → length fs ≡ length vs → i < length vs → get_or (map divisor (paired fs vs)) i (pos 0) ≡ dot (get_or fs i []) (get_or vs i [])
 divisor_entry fs vs i l m =
     let d = pair_of [] [] in

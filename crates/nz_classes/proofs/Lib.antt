@@ -6,5 +6,4 @@ pub mod SimplexLemmas
 pub mod SortLemmas
 pub mod StepLemmas
 pub mod SumLemmas
-pub mod UnitLemmas
 pub mod WalkLemmas

@@ -8,6 +8,7 @@ use Rattle.nz_spec.specs.Vectors.{Vector, dot, plus, minus, opposite, combinatio
 use Rattle.nz_spec.specs.Boxes.{IsFloor}
 use Rattle.nz_spec.proofs.VectorLaws.{dot-minus, length-minus, plus_comm}
 use Rattle.nz_spec.proofs.SumLaws.{length-combination}
+use Rattle.nz_spec.proofs.ListLaws.{each_at, zip_push}
 use Rattle.nz_linear.specs.DualPairs.{Pair, pair_of, divisor, HasWidths, IsDual}
 use Rattle.nz_linear.specs.Echelon.{unit_at}
 use Rattle.nz_linear.proofs.DualPairs.{widths_of_vectors}
@@ -20,7 +21,6 @@ use Rattle.nz_classes.specs.Classes.{AreOneClass, HasReducedValues, IsRestOf}
 use Rattle.nz_classes.specs.Steps.{AreQuotients, AreCarries, IsCarry}
 use Rattle.nz_classes.specs.Walks.{paired, IsFullSimplex}
 use Rattle.nz_classes.proofs.ClassLaws.{class_trans, class_plus}
-use Rattle.nz_classes.proofs.SortLemmas.{each_at}
 
 -- ---- the pairs of a simplex
 pub length-paired : (fs vs : List Vector) → length fs ≡ length vs → length (paired fs vs) ≡ length vs
@@ -55,12 +55,6 @@ zip_at R [] ys i d e l h = absurd (omega (arith, l))
 zip_at R (x ∷ xs) [] i d e l h = absurd h
 zip_at R (x ∷ xs) (y ∷ ys) zero d e l h = h.0
 zip_at R (x ∷ xs) (y ∷ ys) (suc i) d e l h = zip_at R xs ys i d e (omega (arith, l)) h.1
-
-zip_push : {A B : Type 0} (R : A → B → Type 0) (xs : List A) (ys : List B) (x : A) (y : B) → AllZip R xs ys → R x y → AllZip R (xs ++ (x ∷ [])) (ys ++ (y ∷ []))
-zip_push R [] [] x y z r = (r, tt)
-zip_push R [] (b ∷ ys) x y z r = absurd z
-zip_push R (a ∷ xs) [] x y z r = absurd z
-zip_push R (a ∷ xs) (b ∷ ys) x y z r = (z.0, zip_push R xs ys x y z.1 r)
 
 -- one more pair of two lists
 pub zip_more : {A B : Type 0} (R : A → B → Type 0) (xs : List A) (ys zs : List B) (i : ℕ) (d : A) (y : B) → i < length xs → AllZip R (take i xs) ys → R (get_or xs i d) y → zs ≡ ys ++ (y ∷ []) → AllZip R (take (i + 1) xs) zs

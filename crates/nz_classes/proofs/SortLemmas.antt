@@ -12,23 +12,10 @@ use Rattle.std.specs.List.Sorted.{IsPermutation, IsSorted}
 use Rattle.std.specs.Prelude.{Result, Ok, Err, IfOk, MatchResult}
 use Rattle.nz_spec.specs.Vectors.{Vector, HasWidth}
 use Rattle.nz_spec.specs.Order.{IsLexBefore, Pairwise, IsListOf, ListsOnce}
+use Rattle.nz_spec.proofs.ListLaws.{each_at}
 use Rattle.nz_order.proofs.OrderLaws.{lex_cases, lex_transitive}
 use Rattle.nz_order.proofs.SortLaws.{permuted_once, Pairwise-neighbours}
 use Rattle.nz_classes.specs.Steps.{IsNotFalling}
-
-pub each_at : {A : Type 0} (P : A → Type 0) (xs : List A) (k : ℕ) (d : A) → Each P xs → k < length xs → P (get_or xs k d)
-each_at P [] k d h l = absurd (omega arith)
-each_at P (x ∷ xs) zero d h l = h.0
-each_at P (x ∷ xs) (suc k) d h l = each_at P xs k d h.1 (omega arith)
-
-pub contains_at : {A : Type 0} (xs : List A) (k : ℕ) (d : A) → k < length xs → Contains xs (get_or xs k d)
-contains_at [] k d l = absurd (omega arith)
-contains_at (x ∷ xs) zero d l = (0, omega arith, refl)
-contains_at (x ∷ xs) (suc k) d l = (let c = contains_at xs k d (omega arith) in let b = c.1 in (suc c.0, omega arith, c.2))
-
--- one more, the image of which is the next of a list
-pub pushed : {A B : Type 0} (f : A → B) (done : List A) (a : A) (ys : List B) (i : ℕ) (d : B) → i < length ys → map f done ≡ take i ys → f a ≡ get_or ys i d → map f (done ++ a ∷ []) ≡ take (i + 1) ys
-pushed f done a ys i d l h e = map-append f done (a ∷ []) ∙ ap (λ (zs : List _). zs ++ f a ∷ []) h ∙ ap (λ (b : _). take i ys ++ b ∷ []) e ∙ sym (take_more ys i d l)
 
 -- the same of a list that is seen as the images
 pub next_row : {A B : Type 0} (f : A → B) (xs : List A) (i : ℕ) (a : A) (done : List B) (b : B) (new : List B) → i < length xs → a ≡ get_or xs i a → done ≡ take i (map f xs) → b ≡ f a → new ≡ done ++ b ∷ [] → new ≡ take (i + 1) (map f xs)

@@ -15,7 +15,7 @@ use Rattle.nz_classes.specs.Classes.{IsRestOf}
 use Rattle.nz_classes.specs.Steps.{IsPrepared}
 use Rattle.nz_classes.specs.Walks.{paired, IsFullSimplex, IsNamed, IsTooLarge}
 use Rattle.nz_classes.proofs.SimplexLemmas.{zip_at}
-use Rattle.nz_classes.proofs.UnitLemmas.{length-unit_vectors, unit_vector_at}
+use Rattle.nz_vec.proofs.UnitLemmas.{length-unit_vectors, unit_vector_at}
 use Rattle.nz_classes.proofs.WalkLemmas.{point_of}
 
 pub caused_of : (bound : ℕ) (sides forms : List Vector) (e : Num) → (e ≡ Range → IsTooLarge bound sides forms) → IsCaused bound sides forms e

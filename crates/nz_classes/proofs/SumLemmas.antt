@@ -3,13 +3,12 @@ use Rattle.std.proofs.Common.{◌≡◌, ℕ, ◌+◌, ◌<◌, ◌≤◌, inl, 
 use Rattle.std.proofs.lemmas.Int.{ints}
 use Rattle.std.proofs.lemmas.List.{map-append, take_more, take_all}
 use Rattle.std.specs.List.{AllByRecursion as Each}
-use Rattle.nz_spec.proofs.ListLaws.{Each-contains, Each-from_contains}
+use Rattle.nz_spec.proofs.ListLaws.{Each-contains, Each-from_contains, contains_at}
 use Rattle.nz_order.proofs.OrderLaws.{Each-push}
 use Rattle.nz_order.proofs.SortLaws.{Each-front, Each-back}
 use Rattle.nz_linear.proofs.Ring.{sums}
 use Rattle.nz_scalar.specs.Room.{HasRoom}
 use Rattle.nz_classes.specs.Sums.{sum_of, HasSigns, IsSortedIn, IsSplit, IsTaken}
-use Rattle.nz_classes.proofs.SortLemmas.{contains_at}
 
 sum_append : (xs ys : List ℤ) → sum_of (xs ++ ys) ≡ sum_of xs +ℤ sum_of ys
 sum_append [] ys = omega (arith, sums)

@@ -34,7 +34,7 @@ use Rattle.nz_classes.specs.Walks.{paired, IsFullSimplex, ListsPoints, IsRefusal
 use Rattle.nz_classes.proofs.ClassLaws.{all_found}
 use Rattle.nz_classes.proofs.SimplexLemmas.{class_refl, vectors-paired, length-paired}
 use Rattle.nz_classes.proofs.SortLemmas.{in_order_list}
-use Rattle.nz_classes.proofs.UnitLemmas.{length-unit_vectors, unit_vector_at}
+use Rattle.nz_vec.proofs.UnitLemmas.{length-unit_vectors, unit_vector_at}
 
 -- ---- the points are the vectors with reduced values
 module _ (sides forms : List Vector) (s : IsFullSimplex sides forms) where

@@ -6,7 +6,6 @@ use Rattle.nz_spec.specs.Order.{IsLexBefore, Pairwise}
 use Rattle.nz_linear.specs.DualPairs.{Pair, divisor}
 use Rattle.nz_scalar.specs.Division.{IsFloorQuotient}
 use Rattle.nz_vec.specs.Combinations.{CombinationFits}
-use Rattle.nz_vec.specs.Sums.{SumsFit}
 use Rattle.nz_vec.specs.declared.answers.Work.{Work}
 use Rattle.nz_vec.specs.declared.answers.Work.TheVariants.{Range, TooMany, Stopped, NoMemory}
 use Rattle.nz_classes.specs.Classes.{AreOneClass, HasReducedValues, IsRestOf}
@@ -19,14 +18,6 @@ pub record IsPrepared (sides forms : List Vector) (divisors : List ℤ) (units v
   pub divisors_are : divisors ≡ map divisor (paired forms sides)
   pub unit_points : AllZip (IsRestOf (length sides) (paired forms sides)) (unit_vectors (length sides)) units
   pub values_are : values ≡ map (values_at forms) units
-
--- a form has at a vector a product, or a sum of the first products, that is no value
-pub record HasValueOutside (fits : ℤ → Type 0) (fs xs : List Vector) : Type 0 where
-  pub form : Vector
-  pub vector : Vector
-  pub of_forms : Contains fs form
-  pub of_vectors : Contains xs vector
-  pub outside : ¬ SumsFit fits (pos 0) form vector
 
 -- one for each form, the floors of the values at a column by the divisors
 pub record AreQuotients (forms : List Vector) (divisors : List ℤ) (column : ℕ) (floors : List ℤ) : Type 0 where

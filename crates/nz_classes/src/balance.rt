@@ -1,9 +1,9 @@
 // Sums that stay inside a type as long as their terms and the whole sum do.
-ghost use Rattle.std.specs.Prelude.{◌≡◌, ◌⊎◌, pos, ◌+ℤ◌, ◌<ℤ◌, [], map, IsTrue, ◌↔◌, IfOk, IfSome, OnOk, MatchOption, MatchResult};
+ghost use Rattle.std.specs.Prelude.{◌≡◌, ◌+ℤ◌, [], map, IfOk, IfSome, OnOk, MatchOption, MatchResult};
 ghost use Rattle.std.specs.List.{AllByRecursion as Each};
 ghost use Rattle.nz_classes.specs.Sums.{sum_of, HasSigns, IsSortedIn, IsSplit, IsSumRefusal, IsTaken};
 
-use nz_vec::{NoMemory, Num, Scalar};
+use nz_vec::{NoMemory, Num, Scalar, is_negative};
 use std::alloc::Global;
 
 /// The sum of the terms. Range comes only where a term or the whole sum is no value of the type:
@@ -68,13 +68,6 @@ fn sort_in<T: Scalar>(term: T, above: &mut Vec<T>, below: &mut Vec<T>) -> Result
             Err(_) => Err(NoMemory),
         }
     }
-}
-
-/// Whether a value stands for less than 0.
-fn is_negative<T: Scalar>(value: T) -> bool
-    ensures { IsTrue result ↔ (T.integer value <ℤ pos 0) }
-{
-    value < T::of_i64(0)
 }
 
 /// The sum of numbers of at least 0 and of numbers of at most 0, each time with the sign that leads

@@ -9,8 +9,8 @@ mod balance;
 mod found;
 mod neighbours;
 mod steps;
-mod units;
 mod values;
 mod walking;
+mod zero;
 
 pub use walking::walk;

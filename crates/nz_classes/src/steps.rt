@@ -9,9 +9,9 @@ ghost use Rattle.nz_classes.specs.Classes.{IsRestOf};
 ghost use Rattle.nz_classes.specs.Steps.{HasSumOutside, IsPrepared};
 ghost use Rattle.nz_classes.specs.Walks.{paired, IsFullSimplex};
 
-use crate::units::{unit, zero};
 use crate::values::{divisors_of, quotients_of, values_of_all};
-use nz_vec::{Num, Row, Rows, Scalar};
+use crate::zero::zero;
+use nz_vec::{Num, Row, Rows, Scalar, unit};
 use std::alloc::Global;
 
 /// A simplex with what each step of the walk needs: the divisors of its forms, the points in the

@@ -1,35 +1,14 @@
 // The values of forms at vectors, and the floors of quotients.
-ghost use Rattle.std.specs.Prelude.{◌≡◌, pos, ◌<ℤ◌, ◌<◌, [], ◌∷◌, length, map, IfOk, MatchResult};
+ghost use Rattle.std.specs.Prelude.{◌≡◌, pos, ◌<ℤ◌, ◌<◌, length, map, IfOk, MatchResult};
 ghost use Rattle.std.specs.List.{AllByRecursion as Each};
 ghost use Rattle.nz_spec.specs.Vectors.{values_at, HasWidth};
 ghost use Rattle.nz_linear.specs.DualPairs.{divisor};
-ghost use Rattle.nz_classes.specs.Steps.{AreQuotients, HasValueOutside};
+ghost use Rattle.nz_vec.specs.Sums.{HasValueOutside};
+ghost use Rattle.nz_classes.specs.Steps.{AreQuotients};
 ghost use Rattle.nz_classes.specs.Walks.{paired};
 
 use nz_vec::{NoMemory, Num, Row, Rows, Scalar};
 use std::alloc::Global;
-
-/// The values of the forms at a vector.
-pub(crate) fn values_of<T: Scalar>(
-    alloc: Global,
-    forms: &Rows<T>,
-    vector: &Row<T>,
-) -> Result<Row<T>, Num>
-    requires { Each (HasWidth (length vector.now)) forms.now }
-    ensures { MatchResult result (λ v. v ≡ values_at forms.now vector.now) (λ e. e ≡ Num.Range → HasValueOutside T.fits forms.now (vector.now ∷ [])) }
-{
-    let mut values = match Vec::with_capacity(alloc, forms.len()) {
-        Ok(values) => values,
-        Err(_) => return Err(Num::NoMemory),
-    };
-    for place in 0..forms.len() {
-        match forms.at(place).dot(vector) {
-            Some(value) => values.push_reserved(value),
-            None => return Err(Num::Range),
-        }
-    }
-    Ok(Row::from_vec(values))
-}
 
 /// The values of the forms at each of some vectors.
 pub(crate) fn values_of_all<T: Scalar>(
@@ -43,7 +22,7 @@ pub(crate) fn values_of_all<T: Scalar>(
 {
     let mut all = Rows::new(alloc);
     for place in 0..vectors.len() {
-        let values = match values_of(alloc, forms, vectors.at(place)) {
+        let values = match forms.values_at(vectors.at(place)) {
             Ok(values) => values,
             Err(refusal) => return Err(refusal),
         };

@@ -1,4 +1,4 @@
-ghost use Rattle.std.specs.Prelude.{◌≡◌, ◌<◌, ◌≤◌, ℕ, ℤ, List, [], length, unsigned_abs, slice_index_or, IfOk, OnOk, MatchResult};
+ghost use Rattle.std.specs.Prelude.{◌≡◌, ◌<◌, ◌≤◌, ℕ, ℤ, List, [], length, unsigned_abs, slice_index_or, MatchResult};
 ghost use Rattle.std.specs.List.{AllByRecursion as Each};
 ghost use Rattle.nz_spec.specs.Vectors.{plus, values_at, HasWidth};
 ghost use Rattle.nz_linear.specs.Echelon.{unit_at};
@@ -10,8 +10,7 @@ ghost use Rattle.nz_classes.specs.Walks.{paired, IsFullSimplex, IsRefusal, Lists
 use crate::found::Found;
 use crate::neighbours::neighbour;
 use crate::steps::{Steps, prepare};
-use crate::units::zero;
-use crate::values::values_of;
+use crate::zero::zero;
 use nz_vec::{Num, Row, Rows, Scalar, Work};
 use std::alloc::Global;
 
@@ -103,7 +102,7 @@ fn expand<T: Scalar>(
         Ok(point) => point,
         Err(refusal) => return Err(Work::from(refusal)),
     };
-    let values = match values_of(alloc, steps.forms, &point) {
+    let values = match steps.forms.values_at(&point) {
         Ok(values) => values,
         Err(refusal) => return Err(work_of(refusal)),
     };

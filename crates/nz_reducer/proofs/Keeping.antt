@@ -9,12 +9,12 @@ use Rattle.std.specs.List.{AllByRecursion as Each}
 use Rattle.std.specs.List.Sorted.{IsPermutation, IsSorted}
 use Rattle.nz_spec.specs.Vectors.{Vector, dot, values_at, IsZero, IsNonzero}
 use Rattle.nz_spec.specs.Order.{Pairwise, ListsOnce}
-use Rattle.nz_spec.proofs.ListLaws.{Each-contains, Each-from_contains}
+use Rattle.nz_spec.proofs.ListLaws.{Each-contains, Each-from_contains, contains_at, each_at}
 use Rattle.nz_order.specs.Boxes.{IsBelow}
 use Rattle.nz_reducer.specs.Reducers.{AreSeparated, AreValued, IsUnreduced}
 use Rattle.nz_reducer.specs.Tables.{NoneIsBelow, IsFirstBelow}
 use Rattle.nz_reducer.proofs.Reducing.{ComesBefore, IsUnder, Kept, kept_zero, kept_under, kept_more, kept_all}
-use Rattle.nz_reducer.proofs.Places.{each_at, contains_at, in_value_order}
+use Rattle.nz_reducer.proofs.Places.{in_value_order}
 
 -- the items are the candidates with their values, in the order of the values
 pub record AreInOrder {Item : Type 0} (rows candidates : List Vector) (items : List Item) (entries values : Item → Vector) : Type 0 where

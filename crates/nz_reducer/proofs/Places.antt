@@ -2,7 +2,7 @@
 use Rattle.std.proofs.Common.{◌≡◌, ◌≢◌, ℕ, zero, suc, ◌+◌, ◌<◌, ◌≤◌, ◌⊎◌, inl, inr, true, false, List, [], ◌∷◌, ◌++◌, length, map, take, get_or, ℤ, pos, ◌≤ℤ◌, ◌<ℤ◌, Contains, refl, sym, ap, ◌∙◌, subst, arith, add-one}
 use Rattle.std.proofs.lemmas.Int.{ints}
 use Rattle.std.proofs.lemmas.Cmp.{int_ranked}
-use Rattle.std.proofs.lemmas.List.{map-append, length-map, take_more, take_all, get_or-map}
+use Rattle.std.proofs.lemmas.List.{length-map, take_more, take_all, get_or-map}
 use Rattle.std.specs.Ordering.{MatchOrdering, int_cmp, ordering_then, is_lt}
 use Rattle.std.specs.Cmp.Lexicographic.{slice_cmp}
 use Rattle.std.specs.declared.cmp.Ordering.{Ordering}
@@ -11,25 +11,16 @@ use Rattle.std.specs.List.{AllZip, AllByRecursion as Each}
 use Rattle.std.specs.List.Sorted.{IsPermutation, IsSorted}
 use Rattle.nz_spec.specs.Vectors.{Vector, dot, values_at, HasWidth}
 use Rattle.nz_spec.specs.Order.{IsLexBefore, Pairwise, IsListOf, ListsOnce}
-use Rattle.nz_spec.proofs.ListLaws.{contains_cases, contains_none}
+use Rattle.nz_spec.proofs.ListLaws.{contains_cases, contains_none, contains_at, each_at, pushed}
 use Rattle.nz_order.proofs.OrderLaws.{Each-push, lex_cases, lex_transitive}
 use Rattle.nz_order.proofs.SortLaws.{permuted_once, Pairwise-neighbours}
-use Rattle.nz_reducer.specs.Reducers.{AreValued, IsNotFalling, HasValueOutside}
+use Rattle.nz_vec.specs.Sums.{HasValueOutside}
+use Rattle.nz_reducer.specs.Reducers.{AreValued, IsNotFalling}
 use Rattle.nz_reducer.proofs.Reducing.{ComesBefore}
-
-pub each_at : {A : Type 0} (P : A → Type 0) (xs : List A) (k : ℕ) (d : A) → Each P xs → k < length xs → P (get_or xs k d)
-each_at P [] k d h l = absurd (omega arith)
-each_at P (x ∷ xs) zero d h l = h.0
-each_at P (x ∷ xs) (suc k) d h l = each_at P xs k d h.1 (omega arith)
 
 pub each_from : {A : Type 0} (P : A → Type 0) (xs : List A) (d : A) → ((k : ℕ) → k < length xs → P (get_or xs k d)) → Each P xs
 each_from P [] d h = tt
 each_from P (x ∷ xs) d h = (h 0 (omega arith), each_from P xs d (λ k l. h (suc k) (omega arith)))
-
-pub contains_at : {A : Type 0} (xs : List A) (k : ℕ) (d : A) → k < length xs → Contains xs (get_or xs k d)
-contains_at [] k d l = absurd (omega arith)
-contains_at (x ∷ xs) zero d l = (0, omega arith, refl)
-contains_at (x ∷ xs) (suc k) d l = (let c = contains_at xs k d (omega arith) in let b = c.1 in (suc c.0, omega arith, c.2))
 
 pub zip_from : (xs ys : Vector) → length xs ≡ length ys → ((k : ℕ) → k < length xs → get_or xs k (pos 0) ≤ℤ get_or ys k (pos 0)) → AllZip ◌≤ℤ◌ xs ys
 zip_from [] [] l h = tt
@@ -43,10 +34,6 @@ zip_at (a ∷ xs) [] k l h = absurd h
 zip_at (a ∷ xs) (b ∷ ys) zero l h = h.0
 zip_at (a ∷ xs) (b ∷ ys) (suc k) l h = zip_at xs ys k (omega arith) h.1
 
--- one more, the image of which is the next of a list
-pub pushed : {A B : Type 0} (f : A → B) (done : List A) (a : A) (ys : List B) (i : ℕ) (d : B) → i < length ys → map f done ≡ take i ys → f a ≡ get_or ys i d → map f (done ++ a ∷ []) ≡ take (i + 1) ys
-pushed f done a ys i d l h e = map-append f done (a ∷ []) ∙ ap (λ (zs : List _). zs ++ f a ∷ []) h ∙ ap (λ (b : _). take i ys ++ b ∷ []) e ∙ sym (take_more ys i d l)
-
 -- the same of a list that is seen as the images
 pub next_row : {A B : Type 0} (f : A → B) (xs : List A) (i : ℕ) (a : A) (done : List B) (b : B) (new : List B) → i < length xs → a ≡ get_or xs i a → done ≡ take i (map f xs) → b ≡ f a → new ≡ done ++ b ∷ [] → new ≡ take (i + 1) (map f xs)
 next_row f xs i a done b new l at h e n =
@@ -56,9 +43,6 @@ next_row f xs i a done b new l at h e n =
 
 pub all_rows : {A B : Type 0} (f : A → B) (xs ys : List A) (i : ℕ) (done : List B) → length xs ≤ i → done ≡ take i (map f xs) → xs ≡ ys → done ≡ map f ys
 all_rows f xs ys i done l h e = h ∙ take_all i (map f xs) (omega (arith, l, length-map xs f)) ∙ ap (map f) e
-
-pub value_at : (rows : List Vector) (x : Vector) (i : ℕ) → i < length rows → get_or (values_at rows x) i (pos 0) ≡ dot (get_or rows i []) x
-value_at rows x i l = get_or-map (λ f. dot f x) rows i [] (pos 0) l
 
 -- one more candidate with its values
 pub valued_more : {Item : Type 0} (rows candidates : List Vector) (items : List Item) (entries values : Item → Vector) (a : Item) (i : ℕ) → i < length candidates → AreValued rows (take i candidates) items entries values → entries a ≡ get_or candidates i [] → values a ≡ values_at rows (get_or candidates i []) → AreValued rows (take (i + 1) candidates) (items ++ a ∷ []) entries values
@@ -76,12 +60,12 @@ valued_end rows candidates items entries values i l h = subst (λ (cs : List Vec
 -- a value outside at one candidate
 pub outside_among : (fits : ℤ → Type 0) (rows candidates : List Vector) (i : ℕ) (x : Vector) → i < length candidates → x ≡ get_or candidates i [] → HasValueOutside fits rows (x ∷ []) → HasValueOutside fits rows candidates
 outside_among fits rows candidates i x l e o = record {
-  row = o.row;
-  candidate = o.candidate;
-  of_rows = o.of_rows;
-  of_candidates = elim (contains_cases x [] o.candidate o.of_candidates) [
+  form = o.form;
+  vector = o.vector;
+  of_forms = o.of_forms;
+  of_vectors = elim (contains_cases x [] o.vector o.of_vectors) [
     | inl same ↦ subst (Contains candidates) (sym e ∙ same) (contains_at candidates i [] l)
-    | inr none ↦ absurd (contains_none o.candidate none)
+    | inr none ↦ absurd (contains_none o.vector none)
   ];
   outside = o.outside;
 }

@@ -4,7 +4,6 @@ use Rattle.std.specs.List.{AllByRecursion as Each}
 use Rattle.nz_spec.specs.Vectors.{Vector, dot, values_at, HasWidth, IsZero, IsNonzero}
 use Rattle.nz_spec.specs.Order.{IsLexBefore}
 use Rattle.nz_order.specs.Reduction.{Reduces}
-use Rattle.nz_vec.specs.Sums.{SumsFit}
 
 -- the candidates have one width, and the rows are forms on it that are together 0 only at 0
 pub record AreSeparated (rows candidates : List Vector) : Type 0 where
@@ -22,14 +21,6 @@ pub record IsUnreduced (rows candidates : List Vector) (u : Vector) : Type 0 whe
   pub candidate : Contains candidates u
   pub nonzero : IsNonzero u
   pub unreduced : Each (λ v. ¬ Reduces (IsNotNegative rows) v u) candidates
-
--- a row has at a candidate a product, or a sum of the first products, that is no value
-pub record HasValueOutside (fits : ℤ → Type 0) (rows candidates : List Vector) : Type 0 where
-  pub row : Vector
-  pub candidate : Vector
-  pub of_rows : Contains rows row
-  pub of_candidates : Contains candidates candidate
-  pub outside : ¬ SumsFit fits (pos 0) row candidate
 
 -- the items are the candidates, each with the values of the rows at it
 pub record AreValued {Item : Type 0} (rows candidates : List Vector) (items : List Item) (entries values : Item → Vector) : Type 0 where

@@ -1,33 +1,26 @@
 //! The candidates that no other one reduces.
-ghost use Rattle.std.specs.Prelude.{◌≡◌, ◌↔◌, pos, [], ◌∷◌, length, map, IsTrue, IfOk, MatchBool, MatchResult};
-ghost use Rattle.std.specs.List.{AllByRecursion as Each};
+ghost use Rattle.std.specs.Prelude.{◌≡◌, map, IfOk, MatchBool, MatchResult};
 ghost use Rattle.std.specs.List.Sorted.{IsPermutation};
 ghost use Rattle.nz_spec.specs.Vectors.{IsZero};
 ghost use Rattle.nz_spec.specs.Order.{IsLexBefore, IsListOf, ListsOnce};
-ghost use Rattle.nz_reducer.specs.Reducers.{AreSeparated, AreValued, HasValueOutside, IsUnreduced, IsNotFalling};
+ghost use Rattle.nz_vec.specs.Sums.{HasValueOutside};
+ghost use Rattle.nz_reducer.specs.Reducers.{AreSeparated, AreValued, IsUnreduced, IsNotFalling};
 
 use crate::valued::{Valued, with_values};
 use crate::{ListTable, Table};
-use nz_vec::{NoMemory, Num, Row, Rows, Scalar};
+use nz_vec::{NoMemory, Num, Row, Rows, Scalar, is_zero};
 use std::alloc::Global;
 
 /// Whether each entry is 0.
-fn is_zero<T: Scalar>(entries: &[T]) -> bool
+fn are_zero<T: Scalar>(entries: &[T]) -> bool
     ensures { MatchBool result (IsZero (map T.integer entries.now)) (¬ IsZero (map T.integer entries.now)) }
 {
     for entry in entries {
-        if !is_nought(*entry) {
+        if !is_zero(*entry) {
             return false;
         }
     }
     true
-}
-
-/// Whether a value stands for 0.
-fn is_nought<T: Scalar>(a: T) -> bool
-    ensures { IsTrue result ↔ (T.integer a ≡ pos 0) }
-{
-    a == T::of_i64(0)
 }
 
 /// The candidates that no other one reduces, in the order of their values. In that order each
@@ -50,7 +43,7 @@ fn unreduced<T: Scalar>(
     let mut table = ListTable::new(alloc, rows.len())?;
     let mut kept = Vec::new(alloc);
     for candidate in &list {
-        if is_zero(&candidate.entries) {
+        if are_zero(&candidate.entries) {
             continue;
         }
         let values = Row::of(alloc, &candidate.values)?;

@@ -1,6 +1,6 @@
 -- The entries of combinations, and lists of values that grow one by one.
-use Rattle.std.proofs.Common.{◌≡◌, ℕ, zero, suc, ◌+◌, ◌<◌, List, [], ◌∷◌, ◌++◌, length, map, get_or, take, ℤ, pos, ◌+ℤ◌, ◌*ℤ◌, refl, sym, ap, ◌∙◌, subst, arith}
-use Rattle.std.proofs.lemmas.List.{take_more, get_or-map}
+use Rattle.std.proofs.Common.{◌≡◌, ℕ, zero, suc, ◌+◌, ◌<◌, List, [], ◌∷◌, ◌++◌, length, map, get_or, take, ℤ, pos, ◌+ℤ◌, ◌*ℤ◌, refl, sym, ap, ap₂, ◌∙◌, subst, arith}
+use Rattle.std.proofs.lemmas.List.{take_more, get_or-map, length-map}
 use Rattle.std.specs.List.{AllByRecursion as Each}
 use Rattle.nz_spec.specs.Vectors.{Vector, dot, combination, zero_vector, unit_vectors, entry, HasWidth}
 use Rattle.nz_spec.specs.Sums.{IsIndependent}
@@ -57,3 +57,9 @@ each_at P d (x ∷ xs) (suc i) h l = each_at P d xs i h.1 (omega arith)
 -- the value of what is made of each element, at a place
 pub mapped_at : {A : Type 0} (f : A → ℤ) (xs : List A) (i : ℕ) (d : A) → i < length xs → get_or (map f xs) i (pos 0) ≡ f (get_or xs i d)
 mapped_at f xs i d l = get_or-map f xs i d (pos 0) l
+
+-- one more image of a list of vectors
+pub mapped_more : (f : Vector → Vector) (xs : List Vector) (i : ℕ) (before after : List Vector) (y v : Vector) → i < length xs → v ≡ get_or xs i [] → y ≡ f v → before ≡ take i (map f xs) → after ≡ before ++ y ∷ [] → after ≡ take (i + 1) (map f xs)
+mapped_more f xs i before after y v l e k h a =
+    let n = length-map xs f in
+    a ∙ ap₂ (λ us u. us ++ u ∷ []) h (k ∙ ap f e ∙ sym (get_or-map f xs i [] [] l)) ∙ sym (take_more (map f xs) i [] (omega (arith, l, n)))

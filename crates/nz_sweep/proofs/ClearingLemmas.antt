@@ -7,6 +7,7 @@ use Rattle.std.proofs.lemmas.List.{take-append-drop, take_more}
 use Rattle.nz_spec.specs.Vectors.{Vector, dot, plus, scaled, HasWidth, IsMultipleOf}
 use Rattle.nz_spec.proofs.IntLaws.{multiple_sub, multiple_mul}
 use Rattle.nz_spec.proofs.VectorLaws.{dot-scaled, one-scaled}
+use Rattle.nz_spec.proofs.ListLaws.{zip_push}
 use Rattle.nz_scalar.specs.Division.{IsFloorQuotient}
 use Rattle.nz_linear.proofs.Ring.{sums, ring_z}
 use Rattle.nz_linear.proofs.Signs.{sign_cases}
@@ -151,13 +152,6 @@ reduced_of p b c q t f one bv pv bx px eb ev ep eu fl et ec ef eo ex =
       vector = ex ∙ ap (λ (u : ℤ). plus (scaled u bx) (scaled f px)) eo ∙ ap (λ (u : Vector). plus u (scaled f px)) (one-scaled bx) ∙ ap (λ (u : Vector). plus u (scaled f px)) (sym eb) ∙ ap (λ (u : Vector). plus b.vector (scaled f u)) (sym ep) ∙ ap (λ (u : ℤ). plus b.vector (scaled u p.vector)) g;
       value = ec ∙ ap (λ (u : ℤ). bv -ℤ u) (et ∙ ap (λ (u : ℤ). q *ℤ u) (sym eu)) ∙ ap (λ (u : ℤ). u -ℤ q *ℤ p.value) (sym ev);
     }
-
--- one more pair of two lists
-zip_push : {A B : Type 0} (R : A → B → Type 0) (xs : List A) (ys : List B) (x : A) (y : B) → AllZip R xs ys → R x y → AllZip R (xs ++ (x ∷ [])) (ys ++ (y ∷ []))
-zip_push R [] [] x y z r = (r, tt)
-zip_push R [] (b ∷ ys) x y z r = absurd z
-zip_push R (a ∷ xs) [] x y z r = absurd z
-zip_push R (a ∷ xs) (b ∷ ys) x y z r = (z.0, zip_push R xs ys x y z.1 r)
 
 pub zip_more : {A B : Type 0} (R : A → B → Type 0) (xs : List A) (ys zs : List B) (i : ℕ) (x : A) (y : B) → i < length xs → x ≡ get_or xs i x → AllZip R (take i xs) ys → R x y → zs ≡ ys ++ (y ∷ []) → AllZip R (take (i + 1) xs) zs
 zip_more R xs ys zs i x y l e z r s = subst (AllZip R (take (i + 1) xs)) (sym s) (subst (λ us. AllZip R us (ys ++ (y ∷ []))) (ap (λ t. take i xs ++ (t ∷ [])) e ∙ sym (take_more xs i x l)) (zip_push R (take i xs) ys x y z r))

@@ -21,7 +21,7 @@ use Rattle.nz_linear.proofs.Units.{length-unit_at, dot-unit_at, entry-unit_own, 
 use Rattle.nz_sweep.specs.Clearing.{Valued, vectors_of, values_of, IsReduced}
 use Rattle.nz_sweep.specs.Duals.{Coordinate, unit_coordinate, coordinate_at, vector_at, AreDual, IsLowered, IsJoined, IsGathered}
 use Rattle.nz_sweep.proofs.PlaceLemmas.{shift, shift_within, shift_apart, at_removed, at_inserted, own_inserted, others_inserted, map_inserted, put_back_at, each_of_places, single}
-use Rattle.nz_sweep.proofs.UnitLemmas.{length-unit_vectors, unit_vector_at}
+use Rattle.nz_vec.proofs.UnitLemmas.{length-unit_vectors, unit_vector_at}
 
 abbrev no_value : Valued
 no_value = record { vector = []; value = pos 0 }

@@ -1,4 +1,3 @@
-pub mod UnitLemmas
 pub mod BaseLemmas
 pub mod CutLemmas
 pub mod ClearingLemmas

@@ -8,3 +8,4 @@ pub mod GroupConstraints
 pub mod Numbers
 pub mod Rounds
 pub mod Terms
+pub mod Lists

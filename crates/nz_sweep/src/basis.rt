@@ -17,8 +17,7 @@ use crate::coordinates::{Coordinate, unit_coordinates};
 use crate::cutting::{multiples, zeros};
 use crate::generating::generated;
 use crate::inside::{is_combination, whole_coordinates};
-use crate::units::units;
-use nz_vec::{Constraints, NoMemory, Num, Row, Rows, Scalar};
+use nz_vec::{Constraints, NoMemory, Num, Row, Rows, Scalar, units};
 use std::alloc::Global;
 use std::marker::Model;
 

@@ -1,12 +1,11 @@
 // Forms of a base in echelon form, from the bottom: a form begins at a column, and is cleared of
 // one vector after the other, the last first. It stays primitive, so up to the columns at which it
 // is 0 so far it goes into the form at the end: no entry and no value is larger than one of that.
-ghost use Rattle.std.specs.Prelude.{◌≡◌, ◌≢◌, ◌⊎◌, ◌↔◌, ◌<◌, ◌≤◌, ◌*ℤ◌, ◌<ℤ◌, ℕ, ℤ, List, pos, negsuc, length, unsigned_abs, Contains, IfOk, IsTrue, MatchOption, MatchResult};
+ghost use Rattle.std.specs.Prelude.{◌≡◌, ◌≢◌, ◌⊎◌, ◌<◌, ◌≤◌, ◌*ℤ◌, ◌<ℤ◌, ℕ, ℤ, List, pos, negsuc, length, unsigned_abs, IfOk, MatchOption, MatchResult};
 ghost use Rattle.std.specs.List.{AllByRecursion as Each, AllZip};
 ghost use Rattle.nz_spec.specs.Vectors.{entry, scaled, HasWidth, IsMultipleOf};
 ghost use Rattle.nz_spec.specs.Forms.{LeadsAt};
 ghost use Rattle.nz_linear.specs.Echelon.{unit_at};
-ghost use Rattle.nz_range.specs.Measures.{pair_measure};
 ghost use Rattle.nz_sweep.specs.Duals.{vector_at};
 ghost use Rattle.nz_sweep.specs.Generating.{AreLeading};
 ghost use Rattle.nz_sweep.specs.Bottom.{column_at, AreLeastFactors, IsClearedOf, IsFromBottom, IsDualAt, AreDualEach};
@@ -15,9 +14,7 @@ ghost use Rattle.nz_sweep.specs.Numbers.{SomeNumberLarge, IsDualNumber, IsBottom
 use crate::coordinates::Coordinate;
 use crate::cutting::times;
 use crate::floors::floor;
-use crate::terms::is_below_zero;
-use crate::units::unit;
-use nz_vec::{NoMemory, Num, Row, Scalar};
+use nz_vec::{NoMemory, Num, Row, Scalar, is_negative, is_nonzero, unit};
 use std::alloc::Global;
 
 /// The columns of the first nonzero entries.
@@ -46,12 +43,6 @@ fn leading_column<T: Scalar>(row: &Row<T>) -> usize
         }
     }
     row.len()
-}
-
-fn is_nonzero<T: Scalar>(value: T) -> bool
-    ensures { IsTrue result ↔ (T.integer value ≢ pos 0) }
-{
-    value != T::of_i64(0)
 }
 
 /// The dual forms of the base, each with its value at its own vector.
@@ -107,7 +98,7 @@ fn sign_of<T: Scalar>(value: T) -> T
     requires { T.integer value ≢ pos 0 }
     ensures { ((T.integer result ≡ pos 1) ⊎ (T.integer result ≡ negsuc 0)) × (pos 0 <ℤ (T.integer result *ℤ T.integer value)) }
 {
-    if is_below_zero(value) {
+    if is_negative(value) {
         T::of_i64(-1)
     } else {
         T::of_i64(1)

@@ -7,8 +7,7 @@ ghost use Rattle.nz_sweep.specs.Duals.{unit_coordinate, IsLowered};
 ghost use Rattle.nz_sweep.specs.Rounds.{IsInLowestTerms};
 
 use crate::floors::floor;
-use crate::units::units;
-use nz_vec::{NoMemory, Num, Row, Scalar};
+use nz_vec::{NoMemory, Num, Row, Scalar, units};
 use std::alloc::Global;
 use std::marker::Model;
 

@@ -12,9 +12,8 @@ use crate::bottom::{dual_coordinates, leading_columns};
 use crate::clearing::reduced_all;
 use crate::cutting::DualBase;
 use crate::pivots::{are_zero, least};
-use crate::units::unit;
 use crate::valued::{Valued, rows, with_values};
-use nz_vec::{NoMemory, Num, Row, Rows, Scalar};
+use nz_vec::{NoMemory, Num, Row, Rows, Scalar, unit};
 use std::alloc::Global;
 
 // A cleared list: a row with a value other than 0, its place, and the others, whose values are 0.

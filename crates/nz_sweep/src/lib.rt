@@ -15,9 +15,10 @@ mod floors;
 mod gathering;
 mod generating;
 mod inside;
+mod lists;
 mod pivots;
 mod terms;
-mod units;
 mod valued;
 
 pub use basis::Basis;
+pub use lists::{all_pulled, all_vectors};

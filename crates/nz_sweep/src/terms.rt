@@ -1,14 +1,14 @@
 // Sums whose terms are taken in the order that keeps them small: while the sum is above 0 a term
 // below 0 is added, if one is left, and the other way round. No sum on the way is then larger than
 // the whole or the largest term, so the whole is reached wherever it is a value.
-ghost use Rattle.std.specs.Prelude.{◌≡◌, ◌+ℤ◌, ◌*ℤ◌, ◌<ℤ◌, ◌≤ℤ◌, ◌↔◌, ◌⊎◌, [], pos, map, length, Contains, IfOk, IfErr, IsTrue, MatchOption, MatchBool, MatchResult};
+ghost use Rattle.std.specs.Prelude.{◌≡◌, ◌+ℤ◌, ◌⊎◌, [], map, length, Contains, IfOk, IfErr, MatchOption, MatchBool, MatchResult};
 ghost use Rattle.nz_spec.specs.Vectors.{dot};
 ghost use Rattle.nz_scalar.specs.Exact.{Gives};
 ghost use Rattle.nz_sweep.specs.Numbers.{SomeNumberLarge};
 ghost use Rattle.nz_sweep.specs.Terms.{total, AreTerms, TakesOne};
 
 use crate::inside::is_same;
-use nz_vec::{NoMemory, Num, Row, Scalar};
+use nz_vec::{NoMemory, Num, Row, Scalar, is_negative};
 use std::alloc::Global;
 
 // Terms of at least 0, and terms of at most 0.
@@ -77,7 +77,7 @@ fn with_term<T: Scalar>(terms: Terms<T>, term: T) -> Result<Terms<T>, NoMemory>
         mut above,
         mut below,
     } = terms;
-    if is_below_zero(term) {
+    if is_negative(term) {
         return match below.push(term) {
             Ok(()) => Ok(Terms { above, below }),
             Err(_) => Err(NoMemory),
@@ -87,12 +87,6 @@ fn with_term<T: Scalar>(terms: Terms<T>, term: T) -> Result<Terms<T>, NoMemory>
         Ok(()) => Ok(Terms { above, below }),
         Err(_) => Err(NoMemory),
     }
-}
-
-pub(crate) fn is_below_zero<T: Scalar>(term: T) -> bool
-    ensures { IsTrue result ↔ (T.integer term <ℤ pos 0) }
-{
-    term < T::of_i64(0)
 }
 
 // The sum of the terms. None exactly where it is no value of the type.
@@ -119,7 +113,7 @@ fn balanced<T: Scalar>(above: Vec<T>, below: Vec<T>) -> Option<T>
 fn next<T: Scalar>(sum: T, above: &mut Vec<T>, below: &mut Vec<T>) -> Option<T>
     ensures { MatchOption result ((above.old.items ≡ []) × (below.old.items ≡ [])) (λ t. TakesOne (T.integer sum) (map T.integer above.old.items) (map T.integer below.old.items) (map T.integer above.new.items) (map T.integer below.new.items) (T.integer t)) }
 {
-    if is_below_zero(sum) {
+    if is_negative(sum) {
         return match above.pop() {
             Some(term) => Some(term),
             None => below.pop(),

@@ -1,7 +1,8 @@
 use Rattle.std.proofs.Common.{◌<◌, [], get_or, arith}
 use Rattle.std.specs.List.{AllByRecursion as Each}
+use Rattle.nz_spec.proofs.ListLaws.{each_at}
 use Rattle.nz_blocks.specs.Output.{from_one}
-use Rattle.nz_blocks.proofs.ShapeReadings.{each_at, each_push, image_at, taken_more, all_taken}
+use Rattle.nz_blocks.proofs.ShapeReadings.{each_push, image_at, taken_more, all_taken}
 use Rattle.nz_blocks.proofs.reading_simplices.lists_from.Goals as goal
 
 pub returns-in-Err-clause-whole : goal.returns-in-Err-clause-whole

@@ -1,9 +1,10 @@
 use Rattle.std.proofs.Common.{◌+◌, ◌<◌, ◌∙◌, ℕ, pos, get_or, arith, rules}
 use Rattle.std.proofs.Math.Facts.{to_z-of_z}
 use Rattle.std.specs.Int.{w128}
+use Rattle.nz_spec.proofs.ListLaws.{each_at}
 use mir.Val.{SFits, to_z, of_z}
 use Rattle.nz_blocks.proofs.Readings.{none_some, some_same}
-use Rattle.nz_blocks.proofs.ShapeReadings.{each_at, each_push, image_at, taken_more, all_taken}
+use Rattle.nz_blocks.proofs.ShapeReadings.{each_push, image_at, taken_more, all_taken}
 use Rattle.nz_blocks.proofs.reading_simplices.places_from.Goals as goal
 
 pub returns-in-None-clause-whole : goal.returns-in-None-clause-whole

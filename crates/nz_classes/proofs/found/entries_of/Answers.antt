@@ -1,6 +1,6 @@
 use Rattle.std.proofs.Common.{◌<◌, ◌+◌, length, map, pos, ap, ◌∙◌, arith}
 use Rattle.std.proofs.lemmas.List.{take_all}
-use Rattle.nz_classes.proofs.SortLemmas.{pushed}
+use Rattle.nz_spec.proofs.ListLaws.{pushed}
 use Rattle.nz_classes.proofs.found.entries_of.Goals as goal
 
 pub loop-column-preserved : goal.loop-column-preserved

@@ -1,8 +1,8 @@
 use Rattle.std.proofs.Common.{◌<◌, ◌+◌, length, map, pos, refl, ap, ◌∙◌, arith}
 use Rattle.std.proofs.lemmas.List.{take_all}
 use Rattle.nz_spec.specs.Vectors.{plus, minus, opposite, combination}
+use Rattle.nz_spec.proofs.ListLaws.{pushed}
 use Rattle.nz_classes.proofs.EntryLemmas.{column_sum, length-moved}
-use Rattle.nz_classes.proofs.SortLemmas.{pushed}
 use Rattle.nz_classes.proofs.neighbours.moved.Goals as goal
 
 pub returns-in-Err-moved_entry : goal.returns-in-Err-moved_entry

@@ -1,9 +1,9 @@
 use Rattle.std.proofs.Common.{◌<◌, ℕ, [], length, take, sym, ap, ◌∙◌, arith}
 use Rattle.nz_spec.specs.Vectors.{HasWidth}
 use Rattle.nz_spec.proofs.SumLaws.{length-combination}
+use Rattle.nz_spec.proofs.ListLaws.{each_at}
 use Rattle.nz_linear.specs.Echelon.{unit_at}
 use Rattle.nz_classes.proofs.EntryLemmas.{combination_none, combination_end, sum_more, sum_outside}
-use Rattle.nz_classes.proofs.SortLemmas.{each_at}
 use Rattle.nz_classes.proofs.WalkLemmas.{unit_past}
 use Rattle.nz_classes.proofs.steps.sum_of_sides.Goals as goal
 

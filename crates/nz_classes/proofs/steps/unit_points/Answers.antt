@@ -4,7 +4,7 @@ use Rattle.nz_spec.specs.Vectors.{Vector, unit_vectors}
 use Rattle.nz_classes.specs.Classes.{IsRestOf}
 use Rattle.nz_classes.specs.Walks.{paired}
 use Rattle.nz_classes.proofs.SimplexLemmas.{zip_more, zip_none, zip_end}
-use Rattle.nz_classes.proofs.UnitLemmas.{length-unit_vectors, unit_vector_at}
+use Rattle.nz_vec.proofs.UnitLemmas.{length-unit_vectors, unit_vector_at}
 use Rattle.nz_classes.proofs.steps.unit_points.Goals as goal
 
 pub loop-column-init : goal.loop-column-init

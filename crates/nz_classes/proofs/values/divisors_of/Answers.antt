@@ -2,11 +2,11 @@ use Rattle.std.proofs.Common.{◌<◌, ◌+◌, [], length, map, get_or, pos, sy
 use Rattle.std.specs.Prelude.{Contains}
 use Rattle.std.proofs.lemmas.List.{length-map, take_all}
 use Rattle.nz_spec.specs.Vectors.{Vector, HasWidth, dot}
+use Rattle.nz_spec.proofs.ListLaws.{contains_at, each_at, pushed}
 use Rattle.nz_linear.specs.DualPairs.{divisor}
 use Rattle.nz_classes.specs.Walks.{paired}
 use Rattle.nz_classes.proofs.EntryLemmas.{divisor_entry}
 use Rattle.nz_classes.proofs.SimplexLemmas.{length-paired}
-use Rattle.nz_classes.proofs.SortLemmas.{each_at, contains_at, pushed}
 use Rattle.nz_classes.proofs.values.divisors_of.Goals as goal
 
 pub at-requires : goal.at-requires

@@ -4,9 +4,9 @@ use Rattle.std.proofs.lemmas.Int.{ints}
 use Rattle.std.proofs.lemmas.List.{length-map}
 use Rattle.nz_classes.specs.Steps.{AreQuotients}
 use Rattle.nz_spec.specs.Vectors.{Vector, entry}
+use Rattle.nz_spec.proofs.ListLaws.{each_at}
 use Rattle.nz_scalar.specs.Division.{IsFloorQuotient}
 use Rattle.nz_classes.proofs.EntryLemmas.{each_push, quotient_is}
-use Rattle.nz_classes.proofs.SortLemmas.{each_at}
 use Rattle.nz_classes.proofs.values.quotients_of.Goals as goal
 
 pub loop-place-init : goal.loop-place-init

@@ -1,12 +1,12 @@
 use Rattle.std.proofs.Common.{◌<◌, ℕ, [], length, sym, ap, ◌∙◌, subst, arith}
 use Rattle.std.specs.List.{AllByRecursion as Each}
 use Rattle.nz_spec.specs.Vectors.{HasWidth, values_at}
+use Rattle.nz_spec.proofs.ListLaws.{each_at}
 use Rattle.nz_classes.proofs.EntryLemmas.{row_more, row_end, outside_among}
-use Rattle.nz_classes.proofs.SortLemmas.{each_at}
 use Rattle.nz_classes.proofs.values.values_of_all.Goals as goal
 
-pub values_of-requires : goal.values_of-requires
-values_of-requires g c =
+pub values_at-requires : goal.values_at-requires
+values_at-requires g c =
     let l : c.loop-place.place < length c.args.vectors.now = omega (arith, c.len-place-end.ensures) in
     let e = ap length c.at.ensures ∙ each_at (HasWidth (length c.args.forms.now)) c.args.vectors.now c.loop-place.place [] c.requires.vectors_wide l in
     subst (λ (n : ℕ). Each (HasWidth n) c.args.forms.now) (sym e) c.requires.forms_wide

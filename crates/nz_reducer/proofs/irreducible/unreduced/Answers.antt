@@ -27,11 +27,11 @@ put-requires g c =
     let o = subst (λ (is : List _). AreInOrder c.args.rows.now c.args.candidates.now is (λ c. map int c.entries.items) (λ c. map int c.values.items)) (sym c.deref-candidate-items.ensures.value) (sorted_items int g.T.Ord.cmp g.met.T.Scalar.ordered c.args.rows.now c.args.candidates.now c.args.list.items c.sort.new.self.items (λ c. c.entries.items) (λ c. c.values.items) c.requires.valued c.sort.ensures.permutation c.in-Ok.ensures.sorted) in
     item_long int c.args.rows.now c.args.candidates.now c.deref-candidate-items.result.now (λ c. c.entries.items) (λ c. c.values.items) o c.loop-candidate.candidate-index c.candidate-item.result c.loop-candidate-test.true c.candidate-item.is c.in_ok-values.values (c.in_ok-values.ensures ∙ ap (map int) c.deref-in-loop-candidate.ensures.value) ∙ sym c.loop-candidate.invariant.columns
 
-pub loop-candidate-preserved-then-is_zero : goal.loop-candidate-preserved-then-is_zero
-loop-candidate-preserved-then-is_zero g c =
+pub loop-candidate-preserved-then-are_zero : goal.loop-candidate-preserved-then-are_zero
+loop-candidate-preserved-then-are_zero g c =
     let int = g.T.Scalar.integer in
     let o = subst (λ (is : List _). AreInOrder c.args.rows.now c.args.candidates.now is (λ c. map int c.entries.items) (λ c. map int c.values.items)) (sym c.deref-candidate-items.ensures.value) (sorted_items int g.T.Ord.cmp g.met.T.Scalar.ordered c.args.rows.now c.args.candidates.now c.args.list.items c.sort.new.self.items (λ c. c.entries.items) (λ c. c.values.items) c.requires.valued c.sort.ensures.permutation c.in-Ok.ensures.sorted) in
-    let z = subst (λ (es : List _). IsZero (map int es)) c.deref.ensures.value c.if-is_zero.ensures in
+    let z = subst (λ (es : List _). IsZero (map int es)) c.deref.ensures.value c.if-are_zero.ensures in
     record {
       kept = item_zero int c.args.rows.now c.args.candidates.now c.deref-candidate-items.result.now (λ c. c.entries.items) (λ c. c.values.items) o c.loop-candidate.candidate-index c.candidate-item.result c.loop-candidate-test.true c.candidate-item.is c.requires.separated (map (λ v. map int v.items) c.loop-candidate.kept.items) c.loop-candidate.invariant.kept z;
       table = c.loop-candidate.invariant.table;
@@ -54,7 +54,7 @@ loop-candidate-preserved g c =
     let o = subst (λ (is : List _). AreInOrder c.args.rows.now c.args.candidates.now is (λ c. map int c.entries.items) (λ c. map int c.values.items)) (sym c.deref-candidate-items.ensures.value) (sorted_items int g.T.Ord.cmp g.met.T.Scalar.ordered c.args.rows.now c.args.candidates.now c.args.list.items c.sort.new.self.items (λ c. c.entries.items) (λ c. c.values.items) c.requires.valued c.sort.ensures.permutation c.in-Ok.ensures.sorted) in
     let ks = (map (λ v. map int v.items) c.loop-candidate.kept.items) in
     let x = map int c.candidate-item.result.entries.items in
-    let n = subst (λ (es : List _). ¬ IsZero (map int es)) c.deref.ensures.value c.if-is_zero.ensures in
+    let n = subst (λ (es : List _). ¬ IsZero (map int es)) c.deref.ensures.value c.if-are_zero.ensures in
     let more = ap (map (λ v. map int v.items)) c.in-Ok-push.ensures.items ∙ map-append (λ v. map int v.items) c.loop-candidate.kept.items (c.in-Ok-from_slice.entries ∷ []) ∙ ap (λ (v : Vector). ks ++ v ∷ []) (ap (map int) (c.in-Ok-from_slice.ensures.items ∙ c.deref-in-loop-candidate-2.ensures.value)) in
     record {
       kept = subst (λ (k : List Vector). Kept c.args.rows.now (take (c.loop-candidate.candidate-index + 1) (map (λ c. map int c.entries.items) c.deref-candidate-items.result.now)) k) (sym more) (item_kept int c.args.rows.now c.args.candidates.now c.deref-candidate-items.result.now (λ c. c.entries.items) (λ c. c.values.items) o c.loop-candidate.candidate-index c.candidate-item.result c.loop-candidate-test.true c.candidate-item.is c.requires.separated (map (λ v. map int v.items) c.loop-candidate.kept.items) c.loop-candidate.invariant.kept c.loop-candidate.table.rows c.in_ok-values.values c.loop-candidate.invariant.table (c.in_ok-values.ensures ∙ ap (map int) c.deref-in-loop-candidate.ensures.value) n c.in-None.ensures);

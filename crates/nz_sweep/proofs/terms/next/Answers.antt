@@ -7,7 +7,7 @@ use Rattle.nz_sweep.proofs.terms.next.Goals as goal
 pub returns-in-Some : goal.returns-in-Some
 returns-in-Some g c =
     let Z = g.T.Scalar.integer in
-    let l = c.if-is_below_zero.ensures.0 refl in
+    let l = c.if-is_negative.ensures.0 refl in
     inl (ap (map Z) c.in-Some.ensures.items ∙ map-push Z c.pop.new.self.items c.in-Some.term, refl, inl (omega (arith, sums, l)))
 
 pub returns-in-None : goal.returns-in-None
@@ -17,7 +17,7 @@ returns-in-None g c =
 pub returns-in-Some-pop : goal.returns-in-Some-pop
 returns-in-Some-pop g c =
     let Z = g.T.Scalar.integer in
-    inr (ap (map Z) c.in-Some-pop.ensures.items ∙ map-push Z _ c.in-Some-pop.term, refl, inl (not_below (Z c.args.sum) (λ l. false≢true (c.if-is_below_zero.ensures.1 l))))
+    inr (ap (map Z) c.in-Some-pop.ensures.items ∙ map-push Z _ c.in-Some-pop.term, refl, inl (not_below (Z c.args.sum) (λ l. false≢true (c.if-is_negative.ensures.1 l))))
 
 pub returns-in-None-pop : goal.returns-in-None-pop
 returns-in-None-pop g c =

@@ -7,7 +7,7 @@ use Rattle.nz_sweep.proofs.terms.with_term.Goals as goal
 pub returns-in-Ok : goal.returns-in-Ok
 returns-in-Ok g c =
     let Z = g.T.Scalar.integer in
-    let l = c.if-is_below_zero.ensures.0 refl in
+    let l = c.if-is_negative.ensures.0 refl in
     let low : Z c.args.term ≤ℤ pos 0 = omega (arith, sums, l) in
     let e = ap (map Z) c.in-Ok.ensures.items ∙ map-push Z c.args.terms.below.items c.args.term in
     record {
@@ -18,7 +18,7 @@ returns-in-Ok g c =
 pub returns-in-Ok-push : goal.returns-in-Ok-push
 returns-in-Ok-push g c =
     let Z = g.T.Scalar.integer in
-    let high : pos 0 ≤ℤ Z c.args.term = not_below (Z c.args.term) (λ l. false≢true (c.if-is_below_zero.ensures.1 l)) in
+    let high : pos 0 ≤ℤ Z c.args.term = not_below (Z c.args.term) (λ l. false≢true (c.if-is_negative.ensures.1 l)) in
     let e = ap (map Z) c.in-Ok-push.ensures.items ∙ map-push Z c.args.terms.above.items c.args.term in
     record {
       terms = terms_above g.T.Scalar.fits (map Z c.args.terms.above.items) _ (map Z c.args.terms.below.items) (Z c.args.term) c.requires.terms c.requires.fits high e;

@@ -1,0 +1,18 @@
+use Rattle.std.proofs.Common.{[], get_or, subst, arith}
+use Rattle.nz_linear.specs.Coordinates.{in_coordinates}
+use Rattle.nz_sweep.specs.Bases.{ValueSumsFit}
+use Rattle.nz_spec.proofs.ListLaws.{contains_at}
+use Rattle.nz_sweep.proofs.BaseLemmas.{mapped_more}
+use Rattle.nz_sweep.proofs.lists.all_pulled.Goals as goal
+
+pub loop-place-preserved : goal.loop-place-preserved
+loop-place-preserved g c =
+    mapped_more (λ h. in_coordinates c.args.base.now.vectors h) c.args.forms.now c.loop-place.place c.loop-place.list c.push.new.self c.in-Ok.pulled c.at.result.now
+    (omega (arith, c.loop-place-test.true, c.len-place-end.ensures)) c.at.ensures c.in-Ok.ensures c.loop-place.invariant c.in-Ok-push.ensures.ok
+
+pub returns-in-Err : goal.returns-in-Err
+returns-in-Err g c = λ e. record {
+  form = get_or c.args.forms.now c.loop-place.place [];
+  has = contains_at c.args.forms.now c.loop-place.place [] (omega (arith, c.loop-place-test.true, c.len-place-end.ensures));
+  outside = subst (λ h. ¬ ValueSumsFit g.T.Scalar.fits h c.args.base.now.vectors) c.at.ensures (c.in-Err.ensures e);
+}
