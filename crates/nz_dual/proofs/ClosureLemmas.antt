@@ -10,13 +10,12 @@ use Rattle.nz_spec.specs.Laws.{IsDegreeOf}
 use Rattle.nz_spec.specs.Monoids.{IsPositive, IsIrreducible}
 use Rattle.nz_spec.specs.Stages.{IsInStage, IsInReversed}
 use Rattle.nz_spec.proofs.VectorLaws.{dot-plus, dot-IsZero}
-use Rattle.nz_spec.proofs.ListLaws.{Each-contains, Each-from_contains, Each-weaker, contains_here, contains_cases, contains_none}
+use Rattle.nz_spec.proofs.ListLaws.{Each-contains, Each-from_contains, Each-weaker, contains_here, contains_cases, contains_none, each_at}
 use Rattle.nz_order.specs.Totals.{total}
 use Rattle.nz_order.proofs.OrderLaws.{Each-push}
 use Rattle.nz_order.proofs.SortLaws.{Each-front}
 use Rattle.nz_order.proofs.RowLaws.{whole_lattice, stage_closed, stage_degree}
 use Rattle.nz_order.proofs.StageInsert.{stage_complete, reversed_complete}
-use Rattle.nz_reducer.proofs.Places.{each_at}
 use Rattle.nz_vec.specs.declared.answers.Num.{Num}
 use Rattle.nz_vec.specs.declared.answers.Num.TheVariants as num
 use Rattle.nz_vec.specs.declared.answers.Work.{Work}

@@ -11,7 +11,7 @@ use Rattle.nz_linear.specs.Extreme.{IsPointed}
 use Rattle.nz_linear.proofs.Lists.{each_right}
 use Rattle.nz_vec.specs.declared.answers.Work.{Work}
 use Rattle.nz_pointed.specs.Pointed as pointed
-use Rattle.nz_edge.specs.Telling.{Watched, WasTold, HasPassed, HasPassedAll}
+use Rattle.nz_watch.specs.Telling.{Watched, WasTold, HasPassed, HasPassedAll}
 use Rattle.nz_dual.specs.DualStages.{IsElement}
 use Rattle.nz_dual.specs.Runs.{AreOrderedStages, IsRunRefusal, IsStopAt}
 use Rattle.nz_dual.proofs.FirstStageLemmas.{full_simplex, rows_pointed}
@@ -74,7 +74,7 @@ module _ (w : ℕ) (chosen others : List Vector) (long : length chosen ≡ w) (w
     pub stage_passed : (now : Watched) → WasTold middle now (drop (told - place) ((length rows, n) ∷ [])) false → HasPassed (AreOrderedStages w (chosen ++ others)) told (place + 1) before now false
     stage_passed now t = runs.one_passed w (chosen ++ others) told place n before middle now h inside number_here (subst (λ (k : ℕ). WasTold middle now (drop (told - place) ((k, n) ∷ [])) false) size t)
 
-    pub stage_stopped : (P : Work → Type 0) (now : Watched) (e : Work) → IsStopAt told place (length rows, n) middle now e → IsRunRefusal (AreOrderedStages w (chosen ++ others)) P told before now e
+    pub stage_stopped : (P : ℕ → Work → Type 0) (now : Watched) (e : Work) → IsStopAt told place (length rows, n) middle now e → IsRunRefusal (AreOrderedStages w (chosen ++ others)) P told before now e
     stage_stopped P now e s =
         let t : IsStopAt told place (w + place, n) middle now e = subst (λ (k : ℕ). IsStopAt told place (k, n) middle now e) size s in
         runs.stop_refused (AreOrderedStages w (chosen ++ others)) P told (w + place) before now e t.stopped (runs.stopped_there w (chosen ++ others) told place n before middle now h inside number_here e t (w + place) t.stopped)

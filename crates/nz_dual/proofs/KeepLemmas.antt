@@ -6,7 +6,7 @@ use Rattle.std.proofs.lemmas.List.Elements.{Contains-append_left, Contains-appen
 use Rattle.std.specs.List.{AllZip, AllByRecursion as Each}
 use Rattle.nz_spec.specs.Vectors.{Vector, dot, entry, values_at, HasWidth}
 use Rattle.nz_spec.specs.Order.{Pairwise, MoreThan}
-use Rattle.nz_spec.proofs.ListLaws.{Each-contains, Each-from_contains, Each-weaker, contains_here, contains_cases, contains_none}
+use Rattle.nz_spec.proofs.ListLaws.{Each-contains, Each-from_contains, Each-weaker, contains_here, contains_cases, contains_none, contains_at}
 use Rattle.nz_linear.proofs.Lists.{zip_append}
 use Rattle.nz_order.specs.Boxes.{IsBelow}
 use Rattle.nz_order.specs.Totals.{total}
@@ -17,7 +17,6 @@ use Rattle.nz_vec.specs.Sums.{SumsFit}
 use Rattle.nz_range.specs.Measures.{measure, SomeLargeAt}
 use Rattle.nz_range.proofs.Causes.{value_cause}
 use Rattle.nz_reducer.specs.Tables.{NoneIsBelow, IsFirstBelow}
-use Rattle.nz_reducer.proofs.Places.{contains_at}
 use Rattle.nz_vec.specs.declared.answers.Num.{Num}
 use Rattle.nz_vec.specs.declared.answers.Num.TheVariants as num
 use Rattle.nz_vec.specs.declared.answers.Work.{Work}

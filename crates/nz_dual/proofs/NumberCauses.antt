@@ -1,32 +1,27 @@
 -- In the coordinates of a cone: each cause of the dual run is a named number above the bound, or stages that have more than the limit.
-use Rattle.std.proofs.Common.{◌≡◌, ◌⊎◌, inl, inr, ℕ, suc, ◌<◌, ◌≤◌, List, [], ◌∷◌, ◌++◌, length, map, take, get_or, ℤ, pos, ◌<ℤ◌, ◌≤ℤ◌, subst, ap, ap₂, sym, refl, ◌∙◌, arith}
-use Rattle.std.proofs.lemmas.Int.{ints}
+use Rattle.std.proofs.Common.{◌≡◌, ◌⊎◌, inl, inr, ℕ, List, [], ◌∷◌, ◌++◌, length, map, take, get_or, ℤ, pos, ◌<ℤ◌, subst, ap, sym, refl, ◌∙◌, arith}
 use Rattle.std.proofs.lemmas.List.{length-map}
 use Rattle.std.proofs.Math.Seq.{take-append_seam}
-use Rattle.std.proofs.lemmas.List.Elements.{Contains-append_left, Contains-append_right}
+use Rattle.std.proofs.lemmas.List.Elements.{Contains-append_right}
 use Rattle.std.specs.List.{AllByRecursion as Each, AllZip, Contains}
-use Rattle.nz_spec.specs.Vectors.{Vector, dot, plus, scaled, HasWidth, IsPrimitive, IsNonzero}
-use Rattle.nz_spec.specs.Boxes.{IsListedOrBoxMember, IsFloorSum}
+use Rattle.nz_spec.specs.Vectors.{Vector, dot, HasWidth, IsPrimitive}
 use Rattle.nz_spec.specs.Covers.{vectors_at}
-use Rattle.nz_spec.specs.Forms.{IsNormalForm}
-use Rattle.nz_spec.specs.Monoids.{IsPositive, IsExtreme, IsIrreducible}
+use Rattle.nz_spec.specs.Monoids.{IsPositive, IsExtreme}
 use Rattle.nz_spec.specs.Order.{MoreThan}
-use Rattle.nz_spec.specs.Stages.{IsInStage, IsInReversed, IsFreshRow, Separates, IsIndependentFirst}
-use Rattle.nz_spec.proofs.ListLaws.{Each-contains, contains_here, contains_there, contains_none, contains_cases}
+use Rattle.nz_spec.specs.Stages.{IsInStage, IsFreshRow, Separates}
+use Rattle.nz_spec.proofs.ListLaws.{Each-contains, contains_here, contains_there}
 use Rattle.nz_linear.specs.Cones.{IsInRows}
 use Rattle.nz_linear.specs.DualPairs.{Pair, IsDual}
 use Rattle.nz_linear.specs.Extreme.{IsPointed}
 use Rattle.nz_linear.specs.RayStep.{AreExtremeRays}
-use Rattle.nz_linear.proofs.Lists.{each_map, map_each}
+use Rattle.nz_linear.proofs.Lists.{map_each}
 use Rattle.nz_linear.proofs.RayStart.{dual_rays, dual_pointed}
 use Rattle.nz_linear.proofs.Splitting.{listed_is_extreme}
-use Rattle.nz_range.specs.Measures.{measure, pair_measure, SomeLarge, SomeLargeAt}
 use Rattle.nz_pointed.specs.Pointed.{paired, IsSimplexOf}
 use Rattle.nz_dual.specs.DualStages.{IsElement, IsReversedElement, IsNamed, IsTooLarge}
 use Rattle.nz_dual.specs.DualStages as named
 use Rattle.nz_dual.specs.FirstStage.{IsStartCandidate, IsStartVector, IsStartForm, IsStartTooLarge}
-use Rattle.nz_measures.specs.Stages.{AreFirstRays, IsLater, IsStageVector, IsFirstVector, of_later, of_reversed, of_sum, held_first, first_sum}
-use Rattle.nz_measures.specs.Pools.{IsPoolAbove, IsRowVector, IsRowForm}
+use Rattle.nz_measures.specs.Stages.{AreFirstRays, IsLater, of_later, of_reversed, of_sum, held_first, first_sum}
 use Rattle.nz_measures.specs.Reaches.{IsVectorInStages, IsFormInStages, HasDualAbove, dual_stages}
 use Rattle.nz_measures.specs.Crowds.{HaveStagesAbove}
 use Rattle.nz_measures.specs.Crowds as crowds

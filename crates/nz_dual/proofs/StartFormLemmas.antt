@@ -30,13 +30,14 @@ use Rattle.nz_range.proofs.Causes.{or_large, value_cause}
 use Rattle.nz_spec.specs.Order.{IsLexBefore, IsListOf}
 use Rattle.nz_order.proofs.OrderLaws.{lex_irreflexive}
 use Rattle.nz_order.proofs.SortLaws.{IsListOf-once, MoreThan-list}
+use Rattle.nz_vec.specs.Sums.{HasValueOutside}
 use Rattle.nz_vec.specs.declared.answers.Num.{Num}
 use Rattle.nz_vec.specs.declared.answers.Num.TheVariants as num
 use Rattle.nz_vec.specs.declared.answers.Work.{Work}
 use Rattle.nz_vec.specs.declared.answers.Work.TheVariants.{Range, TooMany, Stopped, NoMemory}
 use Rattle.nz_classes.specs.Classes.{IsPoint}
 use Rattle.nz_classes.specs.Walks.{IsNamed, IsRefusal, IsTooLarge}
-use Rattle.nz_reducer.specs.Reducers.{HasValueOutside, IsUnreduced}
+use Rattle.nz_reducer.specs.Reducers.{IsUnreduced}
 use Rattle.nz_dual.specs.FirstStage.{IsStartCandidate, IsStartVector, IsStartForm, IsStartTooLarge, IsStartRefusal, AreCandidates}
 use Rattle.nz_dual.specs.Sides.{IsWorkOf}
 use Rattle.nz_dual.proofs.FirstStageLemmas.{span_all, vectors_of_pairs, forms_of_pairs, point_listed, candidate_named}
@@ -190,7 +191,7 @@ module _ (rows rays : List Vector) (s : IsFullSimplex rays rows) where
   forms_refused h limit refusal NoMemory f w = tt
 
   pub reducing_refused : (h : ℤ) (fits : ℤ → Type 0) → HasRoom h fits → (limit : ℕ) (candidates : List Vector) → AreCandidates rays candidates → (refusal : Num) (work : Work) → (refusal ≡ num.Range → HasValueOutside fits rows candidates) → IsWorkOf refusal work → IsStartRefusal h limit (length rays) rows rays work
-  reducing_refused h fits room limit candidates a refusal (Range told) f w = let o = f w.0 in (w.1, inr (record { form = o.row; vector = o.candidate; is_form = inl o.of_rows; named = inl (candidate_named rows rays s candidates a o.candidate o.of_candidates); large = value_cause h fits room o.row o.candidate o.outside }))
+  reducing_refused h fits room limit candidates a refusal (Range told) f w = let o = f w.0 in (w.1, inr (record { form = o.form; vector = o.vector; is_form = inl o.of_forms; named = inl (candidate_named rows rays s candidates a o.vector o.of_vectors); large = value_cause h fits room o.form o.vector o.outside }))
   reducing_refused h fits room limit candidates a refusal TooMany f w = absurd w
   reducing_refused h fits room limit candidates a refusal (Stopped stage) f w = w
   reducing_refused h fits room limit candidates a refusal NoMemory f w = tt

@@ -7,7 +7,7 @@ use Rattle.std.proofs.lemmas.List.Elements.{Contains-append_left, Contains-appen
 use Rattle.std.specs.List.{AllByRecursion as Each}
 use Rattle.nz_spec.specs.Vectors.{Vector, plus, scaled}
 use Rattle.nz_spec.proofs.VectorLaws.{one-scaled}
-use Rattle.nz_spec.proofs.ListLaws.{Each-weaker, contains_here, contains_there, contains_cases}
+use Rattle.nz_spec.proofs.ListLaws.{Each-weaker, contains_here, contains_there, contains_cases, contains_at}
 use Rattle.nz_order.proofs.OrderLaws.{Each-push}
 use Rattle.nz_order.proofs.SortLaws.{Each-append}
 use Rattle.nz_scalar.specs.Room.{HasRoom}
@@ -15,7 +15,6 @@ use Rattle.nz_vec.specs.Combinations.{CombinationFits}
 use Rattle.nz_range.specs.Measures.{measure, SomeLarge}
 use Rattle.nz_range.proofs.Fits.{combination_fits}
 use Rattle.nz_range.proofs.Causes.{or_large}
-use Rattle.nz_reducer.proofs.Places.{contains_at}
 use Rattle.nz_dual.specs.PairSums.{IsNotSooner, IsAhead, IsNext, IsSumWith, IsSumOf, AddsSums, AreSums}
 
 -- ---- the next degree

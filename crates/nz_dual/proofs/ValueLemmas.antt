@@ -1,39 +1,21 @@
 -- The values of rows at a vector, their sum, and what is too large where it is too large.
-use Rattle.std.proofs.Common.{◌≡◌, ◌⊎◌, ⊎_elim, inl, inr, ℕ, zero, suc, ◌+◌, ◌*◌, ◌<◌, ◌≤◌, ◌^◌, List, [], ◌∷◌, length, take, get_or, ℤ, pos, negsuc, neg_ℤ, ◌+ℤ◌, ◌*ℤ◌, ◌≤ℤ◌, ◌<ℤ◌, Contains, refl, ap, ap₂, ◌∙◌, arith, add-one}
+use Rattle.std.proofs.Common.{◌≡◌, ◌⊎◌, ⊎_elim, inl, inr, ℕ, zero, suc, ◌+◌, ◌*◌, ◌<◌, ◌≤◌, ◌^◌, List, [], ◌∷◌, length, take, get_or, ℤ, pos, ◌≤ℤ◌, Contains, refl, ap, ◌∙◌, arith, add-one}
 use Rattle.std.specs.Prelude.{Result, Ok, Err, MatchResult, unsigned_abs}
 use Rattle.std.proofs.lemmas.Int.{ints}
-use Rattle.std.proofs.Math.IntN.{zero-*ℤ}
 use Rattle.std.specs.List.{AllByRecursion as Each}
-use Rattle.nz_spec.specs.Vectors.{Vector, dot, plus, scaled, opposite, values_at, HasWidth}
+use Rattle.nz_spec.specs.Vectors.{Vector, dot, values_at, HasWidth}
 use Rattle.nz_spec.proofs.EquationLaws.{dot_comm}
 use Rattle.nz_spec.proofs.ListLaws.{contains_here, contains_there}
-use Rattle.nz_linear.proofs.Ring.{sums, neg-mul, one-mul}
 use Rattle.nz_scalar.specs.Room.{HasRoom}
-use Rattle.nz_vec.specs.Combinations.{CombinationFits}
 use Rattle.nz_order.specs.Totals.{total}
 use Rattle.nz_order.proofs.TotalLaws.{value_total, dot-total}
 use Rattle.nz_range.specs.Measures.{measure, pair_measure, SomeLargeAt}
-use Rattle.nz_range.proofs.Fits.{combination_fits, value_size}
+use Rattle.nz_range.proofs.Fits.{value_size}
 use Rattle.nz_range.proofs.Causes.{or_large}
 
 pub match_map : {A E : Type 0} (P Q : A → Type 0) (R S : E → Type 0) (r : Result A E) → ((x : A) → P x → Q x) → ((e : E) → R e → S e) → MatchResult r P R → MatchResult r Q S
 match_map P Q R S (Ok x) f g h = f x h
 match_map P Q R S (Err e) f g h = g e h
-
--- ---- the opposite vector, as a combination
-pub opposite_sum : (a b : ℤ) (x : Vector) → a ≡ negsuc 0 → b ≡ pos 0 → plus (scaled a x) (scaled b x) ≡ opposite x
-opposite_sum a b [] e f = refl
-opposite_sum a b (c ∷ x) e f =
-    let h : a *ℤ c +ℤ b *ℤ c ≡ neg_ℤ c = rw e (rw f (omega (arith, sums, neg-mul (pos 1) c, one-mul c, zero-*ℤ c))) in
-    ap₂ (λ s t. s ∷ t) h (opposite_sum a b x e f)
-
-pub opposite_large : (h : ℤ) (fits : ℤ → Type 0) → HasRoom h fits → (a b : ℤ) (x : Vector) → a ≡ negsuc 0 → b ≡ pos 0 → ¬ CombinationFits fits a x b x → h <ℤ pos (measure x)
-opposite_large h fits r a b x e f n =
-    let low = r.at_least in
-    ⊎_elim
-    (λ (l : pos (measure x) ≤ℤ h). absurd (n (combination_fits h fits r a x b x (rw e (omega (arith, ints, low), omega (arith, ints, low))) (rw f (omega (arith, ints, low), omega (arith, ints, low))) l l)))
-    (λ l. l)
-    (or_large h (measure x))
 
 -- ---- the sum of the sizes of the first entries
 measure_suc : (xs : Vector) (i : ℕ) → i < length xs → measure (take (suc i) xs) ≡ measure (take i xs) + unsigned_abs (get_or xs i (pos 0))

@@ -13,8 +13,8 @@ use Rattle.nz_order.proofs.SortLaws.{IsListOf-where}
 use Rattle.nz_pointed.specs.Pointed as pointed
 use Rattle.nz_classes.specs.Walks.{paired}
 use Rattle.nz_classes.proofs.SimplexLemmas.{length-paired}
-use Rattle.nz_edge.specs.Watching.{Pair}
-use Rattle.nz_edge.specs.Telling.{Watched, HasPassed}
+use Rattle.nz_watch.specs.Watching.{Pair}
+use Rattle.nz_watch.specs.Telling.{Watched, HasPassed}
 use Rattle.nz_dual.specs.DualStages.{IsElement}
 use Rattle.nz_dual.specs.Runs.{AreOrderedStages}
 use Rattle.nz_dual.proofs.FirstStageLemmas.{full_simplex}

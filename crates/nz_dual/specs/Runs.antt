@@ -3,8 +3,8 @@ use Rattle.std.specs.Prelude.{◌≡◌, ℕ, ◌≤◌, ◌-◌, max, List, [],
 use Rattle.nz_spec.specs.Vectors.{Vector, HasWidth}
 use Rattle.nz_spec.specs.Monoids.{IsIrreducible}
 use Rattle.nz_spec.specs.Stages.{IsInStage, CountsStages}
-use Rattle.nz_edge.specs.Watching.{Pair}
-use Rattle.nz_edge.specs.Telling.{Watched, WasTold, HasPassed, HasStopped, HasLeft}
+use Rattle.nz_watch.specs.Watching.{Pair}
+use Rattle.nz_watch.specs.Telling.{Watched, WasTold, HasPassed, HasStopped, HasLeft}
 use Rattle.nz_vec.specs.declared.answers.Work.{Work}
 use Rattle.nz_vec.specs.declared.answers.Work.TheVariants.{Range, TooMany, Stopped, NoMemory}
 
@@ -12,10 +12,10 @@ use Rattle.nz_vec.specs.declared.answers.Work.TheVariants.{Range, TooMany, Stopp
 abbrev pub AreOrderedStages : ℕ → List Vector → List Pair → Type 0
 AreOrderedStages w ordered = CountsStages (λ first. IsIrreducible (IsInStage (HasWidth w) first)) w ordered
 
--- why a run gives no list: a stage is refused after those that were passed, the watch stopped it, or no memory
-abbrev pub IsRunRefusal : (List Pair → Type 0) → (Work → Type 0) → ℕ → Watched → Watched → Work → Type 0
-IsRunRefusal Stages Refused told before now (Range number) = HasLeft Stages told number before now × Refused (Range 0)
-IsRunRefusal Stages Refused told before now TooMany = ((passed : ℕ) × HasPassed Stages told passed before now false) × Refused TooMany
+-- why a run gives no list: the stage after those that were passed is refused, the watch stopped it, or no memory
+abbrev pub IsRunRefusal : (List Pair → Type 0) → (ℕ → Work → Type 0) → ℕ → Watched → Watched → Work → Type 0
+IsRunRefusal Stages Refused told before now (Range number) = (left : HasLeft Stages told number before now) × Refused left.passed (Range 0)
+IsRunRefusal Stages Refused told before now TooMany = (passed : ℕ) × HasPassed Stages told passed before now false × Refused passed TooMany
 IsRunRefusal Stages Refused told before now (Stopped stage) = HasStopped Stages told stage before now
 IsRunRefusal Stages Refused told before now NoMemory = (passed : ℕ) × HasPassed Stages told passed before now false
 

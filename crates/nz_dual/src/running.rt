@@ -1,25 +1,25 @@
 // The whole run through the stages, and what it tells the watch.
-ghost use Rattle.std.specs.Prelude.{◌≡◌, ◌∷◌, ◌++◌, ◌-◌, [], length, drop, true, false, MatchResult};
+ghost use Rattle.std.specs.Prelude.{◌≡◌, ◌≤◌, ◌∷◌, ◌++◌, ◌-◌, [], length, drop, false, IfOk, MatchResult};
 ghost use Rattle.std.specs.List.{AllByRecursion as Each};
 ghost use Rattle.nz_spec.specs.Vectors.{HasWidth};
 ghost use Rattle.nz_spec.specs.Covers.{vectors_at};
 ghost use Rattle.nz_spec.specs.Order.{IsLexBefore, IsListOf, HasNumber};
 ghost use Rattle.nz_spec.specs.Stages.{AreStages};
 ghost use Rattle.nz_pointed.specs.Pointed.{IsSimplexOf};
-ghost use Rattle.nz_edge.specs.Telling.{WasTold, HasPassedAll};
+ghost use Rattle.nz_watch.specs.Telling.{WasTold, HasPassedAll};
 ghost use Rattle.nz_dual.specs.DualStages.{IsElement};
 ghost use Rattle.nz_dual.specs.Runs.{AreOrderedStages, IsRunRefusal, IsStopAt, IsLeftAs};
 ghost use Rattle.nz_dual.specs.Refusals.{IsRowOf, IsStageOf};
 
 use crate::Stage;
 use crate::ordering::other_rows;
-use nz_edge::Watch;
 use nz_pointed::Simplex;
 use nz_vec::{Rows, Scalar, Work};
+use nz_watch::Watch;
 use std::alloc::Global;
 
-/// The irreducibles of the whole vectors at which all rows are at least 0, lexicographically. The
-/// rows of the simplex come first, then the others in their order.
+/// The irreducibles of the whole vectors at which all rows are at least 0, lexicographically, and no
+/// more of them than the limit. The rows of the simplex come first, then the others in their order.
 ///
 /// A stage is the number of rows so far and that of the irreducibles; the first `told_before` stages
 /// are not told. The number of Range is the greater of `told_before` and the number of stages passed
@@ -34,7 +34,8 @@ pub fn dual<T: Scalar>(
 ) -> Result<Rows<T>, Work>
     requires wide { Each (HasWidth (length simplex.now.places)) rows.now }
     requires simplex { IsSimplexOf (length simplex.now.places) rows.now simplex.now.places simplex.now.rays }
-    ensures { MatchResult result (λ list. IsListOf IsLexBefore (IsElement (length simplex.now.places) rows.now) list × HasPassedAll (AreStages (length simplex.now.places) (HasWidth (length simplex.now.places)) rows.now) told_before (record { told = told watch.old; patience = patience watch.old; stops = stops watch.old }) (record { told = told watch.new; patience = patience watch.new; stops = stops watch.new })) (λ e. IsRunRefusal (AreStages (length simplex.now.places) (HasWidth (length simplex.now.places)) rows.now) (IsStageOf T.HALF limit (length simplex.now.places) rows.now (vectors_at rows.now simplex.now.places) simplex.now.rays) told_before (record { told = told watch.old; patience = patience watch.old; stops = stops watch.old }) (record { told = told watch.new; patience = patience watch.new; stops = stops watch.new }) e) }
+    ensures run { MatchResult result (λ list. IsListOf IsLexBefore (IsElement (length simplex.now.places) rows.now) list × HasPassedAll (AreStages (length simplex.now.places) (HasWidth (length simplex.now.places)) rows.now) told_before (seen watch.old) (seen watch.new)) (λ e. IsRunRefusal (AreStages (length simplex.now.places) (HasWidth (length simplex.now.places)) rows.now) (IsStageOf T.HALF limit (length simplex.now.places) rows.now (vectors_at rows.now simplex.now.places) simplex.now.rays) told_before (seen watch.old) (seen watch.new) e) }
+    ensures within { IfOk result (λ list. length list ≤ limit) }
 {
     let others = match other_rows(alloc, rows, &simplex.places) {
         Ok(others) => others,
@@ -62,7 +63,7 @@ fn all_inserted<T: Scalar>(
 ) -> Result<Stage<T>, Work>
     requires wide { Each (HasWidth (length simplex.now.places)) (vectors_at rows.now simplex.now.places ++ others.now) }
     requires simplex { IsSimplexOf (length simplex.now.places) rows.now simplex.now.places simplex.now.rays }
-    ensures { MatchResult result (λ s. (s.width ≡ length simplex.now.places) × (s.rows ≡ vectors_at rows.now simplex.now.places ++ others.now) × HasPassedAll (AreOrderedStages (length simplex.now.places) (vectors_at rows.now simplex.now.places ++ others.now)) told_before (record { told = told watch.old; patience = patience watch.old; stops = stops watch.old }) (record { told = told watch.new; patience = patience watch.new; stops = stops watch.new })) (λ e. IsRunRefusal (AreOrderedStages (length simplex.now.places) (vectors_at rows.now simplex.now.places ++ others.now)) (IsRowOf T.HALF limit (length simplex.now.places) (vectors_at rows.now simplex.now.places) simplex.now.rays others.now) told_before (record { told = told watch.old; patience = patience watch.old; stops = stops watch.old }) (record { told = told watch.new; patience = patience watch.new; stops = stops watch.new }) e) }
+    ensures { MatchResult result (λ s. (s.width ≡ length simplex.now.places) × (s.rows ≡ vectors_at rows.now simplex.now.places ++ others.now) × HasPassedAll (AreOrderedStages (length simplex.now.places) (vectors_at rows.now simplex.now.places ++ others.now)) told_before (seen watch.old) (seen watch.new) × (length s.list ≤ limit)) (λ e. IsRunRefusal (AreOrderedStages (length simplex.now.places) (vectors_at rows.now simplex.now.places ++ others.now)) (IsRowOf T.HALF limit (length simplex.now.places) (vectors_at rows.now simplex.now.places) simplex.now.rays others.now) told_before (seen watch.old) (seen watch.new) e) }
 {
     let mut stage = match Stage::start(alloc, rows, simplex, limit) {
         Ok(stage) => stage,
@@ -94,7 +95,7 @@ fn tell_stage<T: Scalar>(
     watch: &mut Box<dyn Watch>,
 ) -> Result<(), Work>
     ensures number { HasNumber (IsElement stage.now.width stage.now.rows) (length stage.now.list) }
-    ensures told { MatchResult result (λ _. WasTold (record { told = told watch.old; patience = patience watch.old; stops = stops watch.old }) (record { told = told watch.new; patience = patience watch.new; stops = stops watch.new }) (drop (told_before - passed) ((length stage.now.rows, length stage.now.list) ∷ [])) false) (λ e. IsStopAt told_before passed (length stage.now.rows, length stage.now.list) (record { told = told watch.old; patience = patience watch.old; stops = stops watch.old }) (record { told = told watch.new; patience = patience watch.new; stops = stops watch.new }) e) }
+    ensures told { MatchResult result (λ _. WasTold (seen watch.old) (seen watch.new) (drop (told_before - passed) ((length stage.now.rows, length stage.now.list) ∷ [])) false) (λ e. IsStopAt told_before passed (length stage.now.rows, length stage.now.list) (seen watch.old) (seen watch.new) e) }
 {
     let number = stage.number() as u64;
     let count = stage.list().len() as u64;

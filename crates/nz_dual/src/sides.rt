@@ -1,14 +1,14 @@
 // One side of a new row.
-ghost use Rattle.std.specs.Prelude.{◌≡◌, ◌∷◌, ◌++◌, [], ℕ, ◌<◌, ◌≤◌, ◌^◌, length, take, IfOk, MatchResult};
+ghost use Rattle.std.specs.Prelude.{◌≡◌, ◌∷◌, ◌++◌, [], ◌<◌, ◌≤◌, ◌^◌, length, take, IfOk, MatchResult};
 ghost use Rattle.std.specs.List.{AllByRecursion as Each};
 ghost use Rattle.nz_spec.specs.Vectors.{values_at, HasWidth};
 ghost use Rattle.nz_range.specs.Measures.{measure};
 ghost use Rattle.nz_reducer.specs.Tables.{NoneIsBelow};
 ghost use Rattle.nz_dual.specs.Sides.{IsEmpty, IsSide, IsSideElement, IsNoted, IsWorkOf, Keeps, Handles, HasGrown, IsOfferRefusal};
 
-use crate::values::{is_negative, is_positive, size_of, values_before};
+use crate::values::{size_of, values_before};
 use nz_reducer::{ListTable, Table};
-use nz_vec::{NoMemory, Num, Row, Rows, Scalar, Work};
+use nz_vec::{NoMemory, Num, Row, Rows, Scalar, Work, is_negative, is_positive};
 use std::alloc::Global;
 use std::marker::Model;
 

@@ -10,10 +10,9 @@ ghost use Rattle.nz_dual.specs.Sides.{IsEmpty};
 
 use crate::closing::{close, offer_all};
 use crate::sides::{Side, work_of};
-use crate::starting::{first_list, rows_at};
-use crate::values::opposite;
+use crate::starting::first_list;
 use nz_degree::sort;
-use nz_pointed::Simplex;
+use nz_pointed::{Simplex, opposite};
 use nz_vec::{NoMemory, Num, Row, Rows, Scalar, Work};
 use std::alloc::Global;
 use std::marker::Model;
@@ -55,7 +54,7 @@ impl<T: Scalar> Stage<T> {
         ensures within { IfOk result (λ s. length s.list ≤ limit) }
         ensures refusal { IfErr result (IsStartRefusal T.HALF limit (length simplex.now.places) (vectors_at rows.now simplex.now.places) simplex.now.rays) }
     {
-        let chosen = match rows_at(alloc, rows, &simplex.places) {
+        let chosen = match rows.at_places(&simplex.places) {
             Ok(chosen) => chosen,
             Err(refusal) => return Err(Work::from(refusal)),
         };
@@ -125,7 +124,8 @@ impl<T: Scalar> Stage<T> {
 
     /// The list alone, lexicographically.
     pub(crate) fn into_sorted(self, alloc: Global) -> Result<Rows<T>, NoMemory>
-        ensures { IfOk result (λ list. IsListOf IsLexBefore (IsElement self.width self.rows) list) }
+        ensures size { IfOk result (λ list. length list ≡ length self.list) }
+        ensures lists { IfOk result (λ list. IsListOf IsLexBefore (IsElement self.width self.rows) list) }
     {
         let mut list = self.list;
         match sort(alloc, &mut list, no_grading()) {

@@ -1,7 +1,6 @@
 // The list of the first stage, from the rays of its rows.
-ghost use Rattle.std.specs.Prelude.{◌≡◌, ◌++◌, ◌≤◌, ◌<◌, length, Contains, IfOk, OnOk, MatchResult};
-ghost use Rattle.std.specs.List.{AllByRecursion as Each, AllZip};
-ghost use Rattle.nz_spec.specs.Covers.{vectors_at};
+ghost use Rattle.std.specs.Prelude.{◌≡◌, ◌≤◌, length, Contains, MatchResult};
+ghost use Rattle.std.specs.List.{AllZip};
 ghost use Rattle.nz_spec.specs.Order.{IsLexBefore, IsListOf};
 ghost use Rattle.nz_vec.specs.Primitives.{IsPrimitivePart};
 ghost use Rattle.nz_range.specs.Measures.{SomeLarge};
@@ -12,31 +11,8 @@ ghost use Rattle.nz_dual.specs.FirstStage.{AreCandidates, IsStartRefusal};
 use crate::sides::{within, work_of};
 use nz_classes::walk;
 use nz_reducer::irreducibles;
-use nz_vec::{NoMemory, Num, Places, Rows, Scalar, Work};
+use nz_vec::{Num, Rows, Scalar, Work};
 use std::alloc::Global;
-
-/// Copies of the rows at these places.
-pub(crate) fn rows_at<T: Scalar>(
-    alloc: Global,
-    rows: &Rows<T>,
-    places: &Places,
-) -> Result<Rows<T>, NoMemory>
-    requires { Each (λ k. k < length rows.now) places.now }
-    ensures { IfOk result (λ r. r ≡ vectors_at rows.now places.now) }
-{
-    let mut copies = Rows::new(alloc);
-    for index in 0..places.len() {
-        let copy = match rows.at(places.at(index)).try_copy() {
-            Ok(copy) => copy,
-            Err(refusal) => return Err(refusal),
-        };
-        match copies.push(copy) {
-            Ok(()) => {}
-            Err(refusal) => return Err(refusal),
-        }
-    }
-    Ok(copies)
-}
 
 /// The irreducibles of the first stage, lexicographically. Each vector of the stage is a sum of rays
 /// with whole factors and a vector of their half-open parallelepiped, so the irreducibles are what no
@@ -79,12 +55,12 @@ fn candidates_of<T: Scalar>(
         Ok(forms) => forms,
         Err(refusal) => return Err(work_of(refusal)),
     };
-    let mut candidates = match walk(alloc, rays, &forms, limit) {
+    let candidates = match walk(alloc, rays, &forms, limit) {
         Ok(points) => points,
         Err(refusal) => return Err(refusal),
     };
-    match append(&mut candidates, rays) {
-        Ok(()) => Ok(candidates),
+    match Rows::joined(candidates, rays) {
+        Ok(candidates) => Ok(candidates),
         Err(refusal) => Err(Work::from(refusal)),
     }
 }
@@ -105,21 +81,4 @@ fn primitives<T: Scalar>(alloc: Global, rows: &Rows<T>) -> Result<Rows<T>, Num>
         }
     }
     Ok(forms)
-}
-
-/// Puts copies of the others behind the list.
-fn append<T: Scalar>(list: &mut Rows<T>, others: &Rows<T>) -> Result<(), NoMemory>
-    ensures { OnOk result (list.new ≡ list.old ++ others.now) }
-{
-    for place in 0..others.len() {
-        let copy = match others.at(place).try_copy() {
-            Ok(copy) => copy,
-            Err(refusal) => return Err(refusal),
-        };
-        match list.push(copy) {
-            Ok(()) => {}
-            Err(refusal) => return Err(refusal),
-        }
-    }
-    Ok(())
 }

@@ -1,32 +1,11 @@
 // The values of forms at a vector, and their sum.
-ghost use Rattle.std.specs.Prelude.{◌≡◌, ◌∷◌, ◌++◌, [], ◌<◌, ◌≤◌, ◌+◌, ◌^◌, pos, ◌<ℤ◌, length, take, Contains, IsTrue, ◌↔◌, MatchOption, MatchResult};
+ghost use Rattle.std.specs.Prelude.{◌≡◌, ◌∷◌, ◌++◌, [], ◌<◌, ◌≤◌, ◌+◌, ◌^◌, length, take, Contains, MatchOption, MatchResult};
 ghost use Rattle.std.specs.List.{AllByRecursion as Each};
-ghost use Rattle.nz_spec.specs.Vectors.{opposite, values_at, HasWidth};
+ghost use Rattle.nz_spec.specs.Vectors.{values_at, HasWidth};
 ghost use Rattle.nz_range.specs.Measures.{measure, SomeLargeAt};
 
 use nz_vec::{Num, Row, Rows, Scalar};
 use std::alloc::Global;
-
-/// The opposite vector.
-pub(crate) fn opposite<T: Scalar>(alloc: Global, row: &Row<T>) -> Result<Row<T>, Num>
-    ensures { MatchResult result (λ r. r ≡ opposite row.now) (λ e. e ≡ Num.Range → T.HALF <ℤ pos (measure row.now)) }
-{
-    Row::combine(alloc, T::of_i64(-1), row, T::of_i64(0), row)
-}
-
-/// Whether a value stands for less than 0.
-pub(crate) fn is_negative<T: Scalar>(value: T) -> bool
-    ensures { IsTrue result ↔ (T.integer value <ℤ pos 0) }
-{
-    value < T::of_i64(0)
-}
-
-/// Whether a value stands for more than 0.
-pub(crate) fn is_positive<T: Scalar>(value: T) -> bool
-    ensures { IsTrue result ↔ (pos 0 <ℤ T.integer value) }
-{
-    T::of_i64(0) < value
-}
 
 /// The values of the rows at a vector, and behind them a last value.
 pub(crate) fn values_before<T: Scalar>(

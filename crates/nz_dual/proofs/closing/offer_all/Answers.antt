@@ -1,7 +1,7 @@
 use Rattle.std.proofs.Common.{◌<◌, ◌∙◌, ℕ, [], length, sym, ap, subst, arith}
 use Rattle.std.specs.List.{AllByRecursion as Each}
 use Rattle.nz_spec.specs.Vectors.{HasWidth}
-use Rattle.nz_reducer.proofs.Places.{each_at}
+use Rattle.nz_spec.proofs.ListLaws.{each_at}
 use Rattle.nz_dual.proofs.KeepLemmas.{grown_same}
 use Rattle.nz_dual.proofs.ClosureLemmas.{grown_trans, grown_keeps, handles_next}
 use Rattle.nz_dual.proofs.closing.offer_all.Goals as goal

@@ -1,6 +1,6 @@
-use Rattle.std.proofs.Common.{◌≡◌, ◌+◌, ◌++◌, false, length, take}
+use Rattle.std.proofs.Common.{◌≡◌, ◌≤◌, ◌+◌, ◌++◌, false, length, take}
 use Rattle.nz_spec.specs.Covers.{vectors_at}
-use Rattle.nz_edge.specs.Telling.{HasPassed}
+use Rattle.nz_watch.specs.Telling.{HasPassed}
 use Rattle.nz_dual.specs.Runs.{AreOrderedStages}
 use Rattle.nz_dual.proofs.running.all_inserted.Given as goal
 
@@ -8,7 +8,8 @@ abbrev pub invariant-loop-place : goal.invariant-loop-place
 invariant-loop-place g l = record {
   same_width : l.stage.width ≡ length l.simplex.places;
   rows : l.stage.rows ≡ vectors_at l.rows l.simplex.places ++ take l.place l.others;
+  within : length l.stage.list ≤ l.limit;
   passed : HasPassed (AreOrderedStages (length l.simplex.places) (vectors_at l.rows l.simplex.places ++ l.others)) l.told_before (l.place + 1)
-      (record { told = (goal.Watch-dyn g (l.fn.watch.vtable, l.fn.watch.value)).told l.fn.watch.value; patience = (goal.Watch-dyn g (l.fn.watch.vtable, l.fn.watch.value)).patience l.fn.watch.value; stops = (goal.Watch-dyn g (l.fn.watch.vtable, l.fn.watch.value)).stops l.fn.watch.value })
-      (record { told = (goal.Watch-dyn g (l.watch.vtable, l.watch.value)).told l.watch.value; patience = (goal.Watch-dyn g (l.watch.vtable, l.watch.value)).patience l.watch.value; stops = (goal.Watch-dyn g (l.watch.vtable, l.watch.value)).stops l.watch.value }) false;
+      ((goal.Watch-dyn g (l.fn.watch.vtable, l.fn.watch.value)).seen l.fn.watch.value)
+      ((goal.Watch-dyn g (l.watch.vtable, l.watch.value)).seen l.watch.value) false;
 }

@@ -10,9 +10,9 @@ walk-requires g c = primitive_simplex c.args.rows.now c.args.rays.now c.in-Ok.fo
 pub returns-in-Err-walk : goal.returns-in-Err-walk
 returns-in-Err-walk g c = walk_refused c.args.rows.now c.args.rays.now c.requires g.T.Scalar.HALF c.args.limit c.in-Ok.forms c.in-Ok.ensures c.in-Err-walk.refusal c.in-Err-walk.ensures
 
-pub returns-in-Ok-append : goal.returns-in-Ok-append
-returns-in-Ok-append g c = record {
+pub returns-in-Ok-joined : goal.returns-in-Ok-joined
+returns-in-Ok-joined g c = record {
   points = c.in-Ok-walk.points;
   lists = c.in-Ok-walk.ensures.0;
-  whole = c.in-Ok-append.ensures;
+  whole = c.in-Ok-joined.ensures;
 }

@@ -2,9 +2,9 @@ use Rattle.std.proofs.Common.{◌<◌, List, [], length, take, sym, subst, arith
 use Rattle.std.specs.Prelude.{Contains}
 use Rattle.std.specs.List.{AllZip}
 use Rattle.nz_spec.specs.Vectors.{Vector}
+use Rattle.nz_spec.proofs.ListLaws.{contains_at}
 use Rattle.nz_vec.specs.Primitives.{IsPrimitivePart}
 use Rattle.nz_classes.proofs.SimplexLemmas.{zip_none, zip_more, zip_end}
-use Rattle.nz_reducer.proofs.Places.{contains_at}
 use Rattle.nz_dual.proofs.StartFormLemmas.{divisor_large}
 use Rattle.nz_dual.proofs.starting.primitives.Goals as goal
 

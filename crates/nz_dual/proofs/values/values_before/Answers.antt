@@ -2,8 +2,9 @@ use Rattle.std.proofs.Common.{◌<◌, ◌+◌, [], length, map, pos, refl, sym,
 use Rattle.std.specs.Prelude.{Contains}
 use Rattle.std.proofs.lemmas.List.{length-map}
 use Rattle.nz_spec.specs.Vectors.{Vector, dot, values_at}
+use Rattle.nz_spec.proofs.ListLaws.{contains_at, pushed}
 use Rattle.nz_range.proofs.Causes.{value_cause}
-use Rattle.nz_reducer.proofs.Places.{contains_at, pushed, value_at}
+use Rattle.nz_vec.proofs.ValueLemmas.{value_at}
 use Rattle.nz_dual.proofs.values.values_before.Goals as goal
 
 pub returns-in-None : goal.returns-in-None

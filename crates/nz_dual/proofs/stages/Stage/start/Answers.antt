@@ -6,8 +6,8 @@ use Rattle.nz_linear.proofs.Lists.{each_map}
 use Rattle.nz_dual.proofs.FirstStageLemmas.{full_simplex, first_stage}
 use Rattle.nz_dual.proofs.stages.Stage.start.Goals as goal
 
-pub rows_at-requires : goal.rows_at-requires
-rows_at-requires g c = each_map (IsNew (length c.args.simplex.now.places) c.args.rows.now) (λ k. k < length c.args.rows.now) c.args.simplex.now.places (λ k n. n.within) c.requires.first.only
+pub at_places-requires : goal.at_places-requires
+at_places-requires g c = each_map (IsNew (length c.args.simplex.now.places) c.args.rows.now) (λ k. k < length c.args.rows.now) c.args.simplex.now.places (λ k n. n.within) c.requires.first.only
 
 pub first_list-requires : goal.first_list-requires
 first_list-requires g c = subst (λ (chosen : List Vector). IsFullSimplex c.args.simplex.now.rays chosen) (sym c.in-Ok.ensures) (full_simplex c.args.rows.now c.args.simplex.now.rays c.args.simplex.now.places c.requires)
