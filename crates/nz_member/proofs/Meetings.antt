@@ -5,15 +5,11 @@ use Rattle.std.specs.Prelude.{Some}
 use Rattle.std.specs.List.{AllByRecursion as Each}
 use Rattle.nz_spec.specs.Vectors.{Vector, dot, values_at}
 use Rattle.nz_spec.specs.Constraints.{Constraint, Zero, Multiple, NotNegative, Meets, MeetsAll, form_of}
+use Rattle.nz_spec.proofs.ListLaws.{each_at}
 use Rattle.nz_vec.specs.Sums.{SumsFit}
 use Rattle.nz_member.specs.Amounts.{rows_of}
 use Rattle.nz_member.specs.Values.{LacksValue}
-use Rattle.nz_member.specs.Replies.{FindsBroken}
-
-pub each_at : (P : Constraint → Type 0) (cs : List Constraint) (k : ℕ) (d : Constraint) → Each P cs → k < length cs → P (get_or cs k d)
-each_at P [] k d h l = absurd (omega (arith, l))
-each_at P (c ∷ cs) zero d h l = h.0
-each_at P (c ∷ cs) (suc k) d h l = each_at P cs k d h.1 (omega (arith, l))
+use Rattle.nz_member.specs.Replies.{FindsBroken, HasValueThere}
 
 each_push : (P : Constraint → Type 0) (cs : List Constraint) (c : Constraint) → Each P cs → P c → Each P (cs ++ c ∷ [])
 each_push P [] c h p = (p, tt)
@@ -53,6 +49,10 @@ found_at cs x k c l e m n = (
     broken = subst (λ (b : Constraint). ¬ Meets b x) (e ∙ get_or_default cs k c d l ∙ sym same) n;
   },
 )
+
+-- its form has a value
+pub value_there : (fits : ℤ → Type 0) (cs : List Constraint) (x : Vector) (k : ℕ) (c : Constraint) → k < length cs → c ≡ get_or cs k c → SumsFit fits (pos 0) (form_of c) x → HasValueThere fits cs x (Some k)
+value_there fits cs x k c l e v = λ d same. subst (λ (b : Constraint). SumsFit fits (pos 0) (form_of b) x) (e ∙ get_or_default cs k c d l ∙ sym same) v
 
 -- where one is found, not all are met
 pub found_not_all : (cs : List Constraint) (x : Vector) (k : ℕ) → FindsBroken cs x (Some k) → ¬ MeetsAll cs x

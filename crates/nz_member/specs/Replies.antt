@@ -3,9 +3,10 @@ use Rattle.std.specs.Prelude.{◌≡◌, ◌<◌, ◌⊎◌, ⊤, ℕ, List, len
 use Rattle.std.specs.List.{AllByRecursion as Each}
 use Rattle.nz_spec.specs.Vectors.{Vector, HasWidth, level_of}
 use Rattle.nz_spec.specs.Monoids.{IsPositive, IsIrreducible, IsModuleGenerator}
-use Rattle.nz_spec.specs.Constraints.{Constraint, MeetsAll, IsFirstBroken}
+use Rattle.nz_spec.specs.Constraints.{Constraint, MeetsAll, IsFirstBroken, form_of}
 use Rattle.nz_spec.specs.Parts.{HasParts}
 use Rattle.nz_vec.specs.Conditions.{condition_of}
+use Rattle.nz_vec.specs.Sums.{SumsFit}
 use Rattle.nz_member.specs.Values.{LacksValue}
 use Rattle.nz_member.specs.declared.reply.Reply.{Reply}
 use Rattle.nz_member.specs.declared.reply.Reply.TheVariants.{Parts, Outside}
@@ -14,6 +15,11 @@ use Rattle.nz_member.specs.declared.reply.Reply.TheVariants.{Parts, Outside}
 abbrev pub FindsBroken : List Constraint → Vector → Option ℕ → Type 0
 FindsBroken cs x None = MeetsAll cs x
 FindsBroken cs x (Some place) = (place < length cs) × ((c : Constraint) → c ≡ get_or cs place c → IsFirstBroken cs x c)
+
+-- where one is found, its form has a value in the type at x: each product, and each sum of the first products, is one
+abbrev pub HasValueThere : (ℤ → Type 0) → List Constraint → Vector → Option ℕ → Type 0
+HasValueThere fits cs x None = ⊤
+HasValueThere fits cs x (Some place) = (c : Constraint) → c ≡ get_or cs place c → SumsFit fits (pos 0) (form_of c) x
 
 -- a vector of the monoid of the constraints
 pub record IsInMonoid (w : ℕ) (cs : List Constraint) (x : Vector) : Type 0 where
@@ -60,6 +66,11 @@ pub record ArePartsOf (cs : List Constraint) (x : Vector) (hilbert : List Vector
 abbrev pub IsReplyTo : {T : Type 0} → (T → ℤ) → List Constraint → Vector → List Vector → Option (List Vector) → Reply T → Type 0
 IsReplyTo integer cs x hilbert modules (Parts place counts) = ArePartsOf cs x hilbert modules counts place
 IsReplyTo integer cs x hilbert modules (Outside c) = IsFirstBroken cs x (condition_of integer c)
+
+-- where the reply is a constraint, its form has a value in the type at x
+abbrev pub HasItsValue : {T : Type 0} → (T → ℤ) → (ℤ → Type 0) → Vector → Reply T → Type 0
+HasItsValue integer fits x (Parts place counts) = ⊤
+HasItsValue integer fits x (Outside c) = SumsFit fits (pos 0) (form_of (condition_of integer c)) x
 
 -- the form of some constraint has no value in the type at a vector of the list
 pub record LacksValueAt (fits : ℤ → Type 0) (cs : List Constraint) (list : List Vector) : Type 0 where

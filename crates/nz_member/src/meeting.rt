@@ -1,13 +1,13 @@
-ghost use Rattle.std.specs.Prelude.{◌≡◌, ◌<◌, ℤ, pos, ◌≤ℤ◌, length, MatchBool, MatchOption, MatchResult};
+ghost use Rattle.std.specs.Prelude.{◌≡◌, ◌<◌, ℤ, pos, ◌≤ℤ◌, length, IfOk, IfSome, MatchBool, MatchOption, MatchResult};
 ghost use Rattle.std.specs.List.{AllByRecursion as Each};
 ghost use Rattle.nz_spec.specs.Vectors.{Vector, IsMultipleOf};
 ghost use Rattle.nz_spec.specs.Constraints.{Meets, MeetsAll, form_of};
 ghost use Rattle.nz_vec.specs.Conditions.{condition_of};
 ghost use Rattle.nz_vec.specs.Sums.{SumsFit};
-ghost use Rattle.nz_member.specs.Replies.{FindsBroken};
+ghost use Rattle.nz_member.specs.Replies.{FindsBroken, HasValueThere};
 ghost use Rattle.nz_member.specs.Values.{IsOfWidth, LacksValue};
 
-use nz_vec::{Constraint, Constraints, Num, Row, Scalar};
+use nz_vec::{Constraint, Constraints, Num, Row, Scalar, is_zero};
 
 /// Whether every constraint holds at the vector. None only where the value of a form leaves the type.
 pub fn member<T: Scalar>(constraints: &Constraints<T>, x: &Row<T>) -> Option<bool>
@@ -28,7 +28,8 @@ pub(crate) fn first_broken<T: Scalar>(
     x: &Row<T>,
 ) -> Result<Option<usize>, Num>
     requires { Each (IsOfWidth (length x.now)) constraints.now }
-    ensures { MatchResult result (FindsBroken constraints.now x.now) (λ e. (e ≡ Num.Range) × LacksValue T.fits constraints.now x.now) }
+    ensures found { MatchResult result (FindsBroken constraints.now x.now) (λ e. (e ≡ Num.Range) × LacksValue T.fits constraints.now x.now) }
+    ensures value { IfOk result (HasValueThere T.fits constraints.now x.now) }
 {
     for place in 0..constraints.len() {
         match holds(constraints.at(place), x) {
@@ -43,7 +44,8 @@ pub(crate) fn first_broken<T: Scalar>(
 // Whether the constraint holds at the vector.
 fn holds<T: Scalar>(constraint: &Constraint<T>, x: &Row<T>) -> Option<bool>
     requires { IsOfWidth (length x.now) (condition_of T.integer constraint.now) }
-    ensures { MatchOption result (¬ SumsFit T.fits (pos 0) (form_of (condition_of T.integer constraint.now)) x.now) (λ b. MatchBool b (Meets (condition_of T.integer constraint.now) x.now) (¬ Meets (condition_of T.integer constraint.now) x.now)) }
+    ensures holds { MatchOption result (¬ SumsFit T.fits (pos 0) (form_of (condition_of T.integer constraint.now)) x.now) (λ b. MatchBool b (Meets (condition_of T.integer constraint.now) x.now) (¬ Meets (condition_of T.integer constraint.now) x.now)) }
+    ensures value { IfSome result (λ _. SumsFit T.fits (pos 0) (form_of (condition_of T.integer constraint.now)) x.now) }
 {
     match constraint {
         Constraint::Zero(form) => match form.dot(x) {
@@ -59,12 +61,6 @@ fn holds<T: Scalar>(constraint: &Constraint<T>, x: &Row<T>) -> Option<bool>
             None => None,
         },
     }
-}
-
-fn is_zero<T: Scalar>(value: T) -> bool
-    ensures { MatchBool result (T.integer value ≡ pos 0) (¬ (T.integer value ≡ pos 0)) }
-{
-    value == T::of_i64(0)
 }
 
 fn is_not_negative<T: Scalar>(value: T) -> bool

@@ -3,7 +3,7 @@ ghost use Rattle.std.specs.Prelude.{◌≡◌, ℤ, pos, ◌≤ℤ◌, ◌<ℤ�
 ghost use Rattle.std.specs.List.{AllByRecursion as Each};
 ghost use Rattle.nz_member.specs.Amounts.{TellsMost, IsCount, Lessens, IsLeast};
 
-use nz_vec::Scalar;
+use nz_vec::{Scalar, is_positive};
 
 // How often the heights are taken from the values: as often as they can be. Where no height is
 // positive there is no bound; the basis of a positive monoid has no such element.
@@ -42,12 +42,6 @@ fn lesser<T: Scalar>(times: Option<T>, height: T, value: T) -> Option<T>
     } else {
         times
     }
-}
-
-fn is_positive<T: Scalar>(height: T) -> bool
-    ensures { MatchBool result (pos 0 <ℤ T.integer height) (¬ (pos 0 <ℤ T.integer height)) }
-{
-    T::of_i64(0) < height
 }
 
 // The quotient, or the times where these are fewer.

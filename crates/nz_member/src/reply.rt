@@ -1,7 +1,8 @@
-ghost use Rattle.std.specs.Prelude.{◌≡◌, length, IfOk, MatchOption, MatchResult};
+ghost use Rattle.std.specs.Prelude.{◌≡◌, pos, length, IfOk, IfSome, MatchOption, MatchResult};
 ghost use Rattle.std.specs.List.{AllByRecursion as Each};
-ghost use Rattle.nz_spec.specs.Constraints.{MeetsAll, IsFirstBroken};
+ghost use Rattle.nz_spec.specs.Constraints.{MeetsAll, IsFirstBroken, form_of};
 ghost use Rattle.nz_vec.specs.Conditions.{condition_of};
+ghost use Rattle.nz_vec.specs.Sums.{SumsFit};
 ghost use Rattle.nz_member.specs.Values.{IsOfWidth, LacksValue};
 
 use crate::meeting::first_broken;
@@ -26,7 +27,8 @@ pub(crate) fn outside<T: Scalar>(
     x: &Row<T>,
 ) -> Result<Option<Constraint<T>>, Num>
     requires { Each (IsOfWidth (length x.now)) constraints.now }
-    ensures { MatchResult result (λ broken. MatchOption broken (MeetsAll constraints.now x.now) (λ c. IsFirstBroken constraints.now x.now (condition_of T.integer c))) (λ e. e ≡ Num.Range → LacksValue T.fits constraints.now x.now) }
+    ensures broken { MatchResult result (λ broken. MatchOption broken (MeetsAll constraints.now x.now) (λ c. IsFirstBroken constraints.now x.now (condition_of T.integer c))) (λ e. e ≡ Num.Range → LacksValue T.fits constraints.now x.now) }
+    ensures value { IfOk result (λ broken. IfSome broken (λ c. SumsFit T.fits (pos 0) (form_of (condition_of T.integer c)) x.now)) }
 {
     match first_broken(constraints, x) {
         Ok(None) => Ok(None),

@@ -11,8 +11,8 @@ take_elements-requires-clause-amounts g c = amounts_of g.T.Scalar.fits c.args.co
 pub place_left-requires : goal.place_left-requires
 place_left-requires g c = match_weaker c.args.modules _ _ (λ m h. fit_for c.args.constraints.now (length c.args.x.now) c.requires.forms m.now h) c.requires.generators
 
-pub returns-in-Ok-place_left : goal.returns-in-Ok-place_left
-returns-in-Ok-place_left g c =
+pub returns-in-Ok-place_left-clause-reply : goal.returns-in-Ok-place_left-clause-reply
+returns-in-Ok-place_left-clause-reply g c =
     let int = g.T.Scalar.integer in
     let cs = c.args.constraints.now in
     let x = c.args.x.now in
