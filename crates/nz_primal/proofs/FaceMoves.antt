@@ -1,13 +1,11 @@
 -- The cuts of the face, one after the other.
-use Rattle.std.proofs.Common.{◌≡◌, ◌⊎◌, inl, inr, ℕ, suc, ◌+◌, ◌<◌, ◌≤◌, List, [], ◌∷◌, ◌++◌, length, map, take, drop, get_or, ℤ, pos, subst, ap, ap₂, sym, refl, ◌∙◌, arith}
+use Rattle.std.proofs.Common.{◌≡◌, ℕ, suc, ◌+◌, ◌<◌, ◌≤◌, List, [], ◌∷◌, ◌++◌, length, map, take, drop, get_or, ℤ, subst, ap, sym, refl, ◌∙◌}
 use Rattle.std.proofs.lemmas.List.{take_more, take_all, take-append-drop}
 use Rattle.std.proofs.Math.Seq.{drop-cons}
-use Rattle.std.specs.List.{AllByRecursion as Each, Contains}
 use Rattle.nz_spec.specs.Vectors.{Vector, unit_vectors}
 use Rattle.nz_sweep.specs.Bases.{Base}
 use Rattle.nz_sweep.specs.Duals.{Coordinate, unit_coordinate}
-use Rattle.nz_measures.specs.Sweeps.{Sweeps, none, onward, IsMidway, whole_base}
-use Rattle.nz_primal.specs.Second.{VanishesOn}
+use Rattle.nz_measures.specs.Sweeps.{Sweeps, none, onward, whole_base}
 use Rattle.nz_primal.specs.Parts.{MoveOn, IsCutCause, IsFaceCause}
 
 -- one cut more

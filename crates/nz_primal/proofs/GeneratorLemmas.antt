@@ -14,7 +14,7 @@ use Rattle.nz_linear.proofs.Splitting.{listed_is_extreme, extreme_is_listed}
 use Rattle.nz_order.proofs.SortLaws.{Pairwise-different, IsListOf-where}
 use Rattle.nz_pointed.specs.Pointed.{IsNew, IsSimplexOf}
 use Rattle.nz_rays.proofs.StartLemmas.{simplex_description}
-use Rattle.nz_facets.specs.Rays.{AreRaysOnce}
+use Rattle.nz_rays.specs.Rays.{AreRaysOnce}
 use Rattle.nz_primal.specs.Lists.{AreSeparating, IsBeforeBy, AreGenerators}
 use Rattle.nz_primal.proofs.CoverCoordinates.{vectors_listed}
 

@@ -13,4 +13,4 @@ pub mod ElementLemmas
 pub mod RunLemmas
 mod NumberCauses
 mod FaceMoves
-mod RangeLemmas
+pub mod RangeLemmas

@@ -1,40 +1,39 @@
 -- In the coordinates of a cone: each cause of an engine that the primal run calls is a named number above the bound.
-use Rattle.std.proofs.Common.{◌≡◌, ◌≢◌, ◌⊎◌, inl, inr, ℕ, ◌<◌, ◌≤◌, List, [], ◌∷◌, ◌++◌, length, map, get_or, ℤ, pos, negsuc, ◌<ℤ◌, ◌≤ℤ◌, unsigned_abs, subst, subst₂, ap, ap₂, sym, refl, ◌∙◌, arith}
+use Rattle.std.proofs.Common.{◌≡◌, ◌⊎◌, inl, inr, ℕ, ◌<◌, List, [], ◌∷◌, ◌++◌, length, map, get_or, ℤ, pos, negsuc, ◌<ℤ◌, ◌≤ℤ◌, unsigned_abs, subst, subst₂, ap₂, sym, refl, ◌∙◌, arith}
 use Rattle.std.proofs.lemmas.Int.{ints}
 use Rattle.std.proofs.lemmas.List.{length-map}
 use Rattle.std.proofs.lemmas.List.Elements.{Contains-append_left, Contains-append_right, Contains-get_or}
 use Rattle.std.specs.List.{AllByRecursion as Each, AllZip, Contains}
-use Rattle.nz_spec.specs.Vectors.{Vector, dot, combination, values_at, HasWidth}
-use Rattle.nz_spec.specs.Sums.{IsInBox, IsIndependent, HasRank}
-use Rattle.nz_spec.specs.Order.{IsListOf, IsLexBefore, Pairwise}
-use Rattle.nz_spec.specs.Monoids.{IsPositive, IsExtreme, IsIrreducible}
+use Rattle.nz_spec.specs.Vectors.{Vector, combination, values_at, HasWidth}
+use Rattle.nz_spec.specs.Sums.{IsIndependent}
+use Rattle.nz_spec.specs.Order.{IsLexBefore, Pairwise}
+use Rattle.nz_spec.specs.Monoids.{IsPositive, IsExtreme}
 use Rattle.nz_spec.specs.Boxes.{IsListedOrBoxMember, IsFloorSum}
 use Rattle.nz_spec.specs.Covers.{vectors_at, IsSimplex}
 use Rattle.nz_spec.specs.Forms.{IsDualForm, AreDualForms, IsNormalForm}
-use Rattle.nz_spec.proofs.ListLaws.{Each-contains, Each-from_contains, contains_here, contains_there, contains_none, contains_cases}
+use Rattle.nz_spec.proofs.ListLaws.{Each-contains, Each-from_contains, contains_here, contains_none, contains_cases}
 use Rattle.nz_spec.proofs.SumLaws.{IsInCone-box}
 use Rattle.nz_spec.proofs.LinearLaws.{HasRank-unique}
 use Rattle.nz_scalar.specs.Room.{HasRoom}
-use Rattle.nz_vec.specs.Sums.{SumsFit}
+use Rattle.nz_vec.specs.Sums.{HasValueOutside}
 use Rattle.nz_linear.specs.Cones.{IsInRows, Satisfies}
 use Rattle.nz_linear.specs.Extreme.{IsPointed}
 use Rattle.nz_linear.specs.RayStep.{AreExtremeRays}
 use Rattle.nz_linear.proofs.Splitting.{listed_is_extreme}
-use Rattle.nz_linear.specs.Coordinates.{AreCoordinates, in_coordinates}
+use Rattle.nz_linear.specs.Coordinates.{AreCoordinates}
 use Rattle.nz_linear.proofs.Lists.{each_map}
 use Rattle.nz_linear.proofs.ConeMembers.{cone_of_members}
 use Rattle.nz_linear.proofs.Coordinates.{extreme_forth, extreme_back}
 use Rattle.nz_linear.proofs.Pointed.{positive_of_pointed}
-use Rattle.nz_range.specs.Measures.{measure, pair_measure, SomeLarge, SomeLargeAt}
+use Rattle.nz_range.specs.Measures.{measure, pair_measure}
 use Rattle.nz_range.proofs.Causes.{value_cause}
 use Rattle.nz_sweep.specs.Bases.{Base, CombinationSumsFit}
 use Rattle.nz_pointed.specs.Pointed.{IsTooLarge}
 use Rattle.nz_classes.specs.Classes.{IsPoint}
 use Rattle.nz_classes.specs.Walks.{IsNamed}
 use Rattle.nz_classes.specs.Walks as walks
-use Rattle.nz_reducer.specs.Reducers.{HasValueOutside}
 use Rattle.nz_cover.specs.Placing.{IsPlaced, IsTooLargeToPlace}
-use Rattle.nz_primal.specs.Lists.{AreGenerators, IsBeforeBy}
+use Rattle.nz_primal.specs.Lists.{IsBeforeBy}
 use Rattle.nz_primal.specs.Second.{VanishesOn, IsFaceBase, HaveCoordinates}
 use Rattle.nz_primal.specs.Parts.{IsSettled, IsSecondCone, IsPointOf, AreCandidates, MoveOn, IsFaceCause, IsSecondCause, IsSettleCause, IsElementCause}
 use Rattle.nz_primal.specs.Parts as parts
@@ -42,10 +41,10 @@ use Rattle.nz_primal.proofs.CandidateLemmas.{zip_at}
 use Rattle.nz_primal.proofs.RunLemmas as run
 use Rattle.nz_primal.proofs.SecondLemmas as second
 use Rattle.nz_primal.proofs.SumCoordinates as sum
-use Rattle.nz_primal.proofs.CoverCoordinates.{vectors_wide, vectors_listed}
+use Rattle.nz_primal.proofs.CoverCoordinates.{vectors_listed}
 use Rattle.nz_measures.specs.Sweeps.{Sweeps, none, onward, whole_base}
-use Rattle.nz_measures.specs.Faces.{VanishesThere, FaceMove, IsFaceSwept, in_second, AreExtremeBy}
-use Rattle.nz_measures.specs.Pools.{IsPoolAbove, IsRowVector, IsRowForm, normal, IsSecondFrame, IsSecondVector, IsSecondForm, held, floor_sum, normal_form, of_row}
+use Rattle.nz_measures.specs.Faces.{VanishesThere, FaceMove, IsFaceSwept, in_second}
+use Rattle.nz_measures.specs.Pools.{IsRowVector, IsRowForm, normal, IsSecondFrame, IsSecondVector, IsSecondForm, held, floor_sum, normal_form, of_row}
 use Rattle.nz_measures.specs.Reaches.{HasPrimalAbove, primal_pool, primal_second}
 use Rattle.nz_measures.proofs.FaceCauses.{cut_above, row_at_extreme, coordinates_above, pulled_above, back_above}
 use Rattle.nz_measures.proofs.Measuring.{pool_vector, pool_form, pool_pair, pool_swapped}
@@ -65,7 +64,7 @@ placed_above h w rows order b X s (inr (inr k)) = primal_second s (pool_swapped 
 -- the values of the rows at a candidate are refused
 pub valued_above : (h : ℤ) (fits : ℤ → Type 0) → HasRoom h fits → (w : ℕ) (rows order : List Vector) (b : Base) (X candidates : List Vector) → IsSecondFrame w rows order b X → Each (IsListedOrBoxMember (length b.vectors) (IsInRows (length b.vectors) (in_second b rows)) X) candidates → HasValueOutside fits (in_second b rows) candidates → HasPrimalAbove h w rows order
 valued_above h fits room w rows order b X candidates s c k =
-    primal_second s (pool_pair h (IsSecondVector rows b X) (IsSecondForm w rows order b X) k.row k.candidate (of_row k.of_rows) (held (Each-contains (IsListedOrBoxMember (length b.vectors) (IsInRows (length b.vectors) (in_second b rows)) X) candidates k.candidate c k.of_candidates)) (value_cause h fits room k.row k.candidate k.outside))
+    primal_second s (pool_pair h (IsSecondVector rows b X) (IsSecondForm w rows order b X) k.form k.vector (of_row k.of_forms) (held (Each-contains (IsListedOrBoxMember (length b.vectors) (IsInRows (length b.vectors) (in_second b rows)) X) candidates k.vector c k.of_vectors)) (value_cause h fits room k.form k.vector k.outside))
 
 -- a dual form of independent vectors of a list is a normal form of the list
 dual_normal : (w : ℕ) (X vs forms : List Vector) (f : Vector) → Each (Contains X) vs → IsIndependent w vs → AreDualForms w vs forms → Contains forms f → IsNormalForm w X f
@@ -252,7 +251,7 @@ module _ (w : ℕ) (rows rays : List Vector) (pt : IsPointed w rows) (ex : AreEx
     second_above (parts.of_pull {b = b} s k) = pulled_above h fits room w rows order b k.form positive (face_swept b s) (inl k.has) k.outside
 
     pub order_above : HasValueOutside fits order rays → HasPrimalAbove h w rows order
-    order_above k = row_at_extreme h fits room w rows order k.row k.candidate positive (inr k.of_rows) (ray k.candidate k.of_candidates) k.outside
+    order_above k = row_at_extreme h fits room w rows order k.form k.vector positive (inr k.of_forms) (ray k.vector k.of_vectors) k.outside
 
 -- nothing is settled
 pub settle_above : (h : ℤ) (fits : ℤ → Type 0) → HasRoom h fits → (w : ℕ) (rows order : List Vector) → IsPointed w rows → IsSettleCause h fits w rows order → HasPrimalAbove h w rows order

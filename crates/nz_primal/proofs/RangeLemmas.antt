@@ -1,5 +1,5 @@
 -- From the causes of the parts to those of the whole.
-use Rattle.std.proofs.Common.{◌≡◌, ◌⊎◌, inl, inr, ℕ, ◌<◌, List, [], ◌∷◌, length, get_or, ℤ, pos, subst, subst₂, sym, refl, ap}
+use Rattle.std.proofs.Common.{◌≡◌, ℕ, ◌<◌, List, [], length, get_or, ℤ, subst, subst₂, sym, refl}
 use Rattle.std.specs.List.{AllByRecursion as Each, Contains}
 use Rattle.nz_spec.specs.Vectors.{Vector}
 use Rattle.nz_spec.specs.Covers.{vectors_at}
@@ -10,7 +10,7 @@ use Rattle.nz_vec.specs.declared.answers.Num.TheVariants as num
 use Rattle.nz_vec.specs.declared.answers.Work.{Work}
 use Rattle.nz_vec.specs.declared.answers.Work.TheVariants.{Range, TooMany, Stopped, NoMemory}
 use Rattle.nz_classes.specs.Walks as walks
-use Rattle.nz_edge.specs.Telling.{Watched}
+use Rattle.nz_watch.specs.Telling.{Watched}
 use Rattle.nz_cover.specs.Placing.{IsPlaceRefusal, IsTooLargeToPlace}
 use Rattle.nz_reducer.specs.Reducers.{IsUnreduced}
 use Rattle.nz_primal.specs.Parts.{WhereRange, SomeWalkLarge, IsFirstRefusal, IsLastRefusal}

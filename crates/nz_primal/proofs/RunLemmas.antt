@@ -13,6 +13,7 @@ use Rattle.nz_spec.proofs.ListLaws.{Each-contains, contains_here}
 use Rattle.nz_spec.proofs.VectorLaws.{IsZero-zero_vector}
 use Rattle.nz_spec.proofs.LinearLaws.{HasRank-unique}
 use Rattle.nz_spec.proofs.SumLaws.{IsInCone-box}
+use Rattle.nz_spec.specs.Boxes.{IsListedOrBoxMember}
 use Rattle.nz_linear.specs.Cones.{IsInRows}
 use Rattle.nz_linear.specs.Extreme.{IsPointed}
 use Rattle.nz_linear.specs.Coordinates.{AreCoordinates, in_coordinates}
@@ -20,9 +21,9 @@ use Rattle.nz_linear.proofs.Lists.{each_map, each_of_map}
 use Rattle.nz_linear.proofs.ConeMembers.{cone_of_members}
 use Rattle.nz_linear.proofs.Coordinates.{irreducible_forth, irreducible_back}
 use Rattle.nz_order.proofs.SortLaws.{IsListOf-where}
-use Rattle.nz_edge.specs.Watching.{Pair}
-use Rattle.nz_edge.specs.Telling.{Watched, HasPassed, HasPassedAll, HasStopped}
-use Rattle.nz_edge.proofs.TellingLemmas.{none_told}
+use Rattle.nz_watch.specs.Watching.{Pair}
+use Rattle.nz_watch.specs.Telling.{Watched, HasPassed, HasPassedAll, HasStopped}
+use Rattle.nz_watch.proofs.TellingLemmas.{none_told}
 use Rattle.nz_vec.specs.declared.answers.Num.{Num}
 use Rattle.nz_vec.specs.declared.answers.Num.TheVariants as num
 use Rattle.nz_vec.specs.declared.answers.Work.{Work}
@@ -30,7 +31,7 @@ use Rattle.nz_vec.specs.declared.answers.Work.TheVariants.{Range, TooMany, Stopp
 use Rattle.nz_classes.specs.Classes.{IsPoint}
 use Rattle.nz_cover.specs.Placing.{ArePlaceable, IsInConeOf, IsPlaced, IsPlaceRefusal}
 use Rattle.nz_sweep.specs.Bases.{Base, IsBase}
-use Rattle.nz_primal.specs.Lists.{ArePrimalLists, IsHeld, IsPrimalRefusal, HasPassedFirst}
+use Rattle.nz_primal.specs.Lists.{ArePrimalLists, IsPrimalRefusal, HasPassedFirst}
 use Rattle.nz_primal.specs.Second.{IsFaceBase, HaveCoordinates}
 use Rattle.nz_primal.specs.Parts.{IsSettled, IsSecondCone, IsVectorOf, IsPointOf, IsCrowded, IsWalkRefusal, IsFirstRefusal, IsLastRefusal, stage_count}
 use Rattle.nz_primal.proofs.SumCoordinates as sum
@@ -161,7 +162,7 @@ module _ (w : ℕ) (rows order extreme : List Vector) (base : Base) (coordinates
           absurd ((h c (contains_here c cs)).irreducible.nonzero (subst (λ d. IsZero (at d)) (sym z) (IsZero-zero_vector w)))
 
   -- the points of a simplex, as vectors of the whole
-  point_held : (simplices : List (List ℕ)) (places : List ℕ) → IsSimplex (length base.vectors) coordinates places → (c : Vector) → IsPoint (length places) (vectors_at coordinates places) c → HasWidth (length base.vectors) c × IsHeld w (IsInRows w rows) extreme (at c)
+  point_held : (simplices : List (List ℕ)) (places : List ℕ) → IsSimplex (length base.vectors) coordinates places → (c : Vector) → IsPoint (length places) (vectors_at coordinates places) c → HasWidth (length base.vectors) c × IsListedOrBoxMember w (IsInRows w rows) extreme (at c)
   point_held simplices places s c p =
       let n : length places ≡ length base.vectors = HasRank-unique (length base.vectors) (Contains coordinates) (length places) (length base.vectors) (λ x k. Each-contains (HasWidth (length base.vectors)) coordinates x have.widths k) s.full settled_cone.full in
       let vs = vectors_at coordinates places in
@@ -180,17 +181,17 @@ module _ (w : ℕ) (rows order extreme : List Vector) (base : Base) (coordinates
       )
 
   -- a ray or a point of a simplex, as a vector of the whole
-  held_at : (simplices : List (List ℕ)) → Each (IsSimplex (length base.vectors) coordinates) simplices → (c : Vector) → Contains coordinates c ⊎ IsPointOf coordinates simplices c → HasWidth (length base.vectors) c × IsHeld w (IsInRows w rows) extreme (at c)
+  held_at : (simplices : List (List ℕ)) → Each (IsSimplex (length base.vectors) coordinates) simplices → (c : Vector) → Contains coordinates c ⊎ IsPointOf coordinates simplices c → HasWidth (length base.vectors) c × IsListedOrBoxMember w (IsInRows w rows) extreme (at c)
   held_at simplices g c (inl r) = (Each-contains (HasWidth (length base.vectors)) coordinates c have.widths r, inl (subst (λ (vs : List Vector). Contains vs (at c)) have.same (sum.mapped_has at coordinates c r)))
   held_at simplices g c (inr p) = point_held simplices p.0 (Each-contains (IsSimplex (length base.vectors) coordinates) simplices p.0 g p.1) c p.2
 
-  more_held : (limit : ℕ) (simplices : List (List ℕ)) → Each (IsSimplex (length base.vectors) coordinates) simplices → IsCrowded limit coordinates simplices → MoreThan limit (IsHeld w (IsInRows w rows) extreme)
+  more_held : (limit : ℕ) (simplices : List (List ℕ)) → Each (IsSimplex (length base.vectors) coordinates) simplices → IsCrowded limit coordinates simplices → MoreThan limit (IsListedOrBoxMember w (IsInRows w rows) extreme)
   more_held limit simplices g h =
-      let each = each_map (λ c. Contains coordinates c ⊎ IsPointOf coordinates simplices c) (λ c. HasWidth (length base.vectors) c × IsHeld w (IsInRows w rows) extreme (at c)) h.witnesses (held_at simplices g) h.only in
+      let each = each_map (λ c. Contains coordinates c ⊎ IsPointOf coordinates simplices c) (λ c. HasWidth (length base.vectors) c × IsListedOrBoxMember w (IsInRows w rows) extreme (at c)) h.witnesses (held_at simplices g) h.only in
       record {
         witnesses = map at h.witnesses;
-        different = different_mapped at (HasWidth (length base.vectors)) (sum.at_same w base.vectors fb.widths fb.independent) h.witnesses (each_map (λ c. HasWidth (length base.vectors) c × IsHeld w (IsInRows w rows) extreme (at c)) (HasWidth (length base.vectors)) h.witnesses (λ c p. p.0) each) h.different;
-        only = each_of_map at (IsHeld w (IsInRows w rows) extreme) h.witnesses (each_map (λ c. HasWidth (length base.vectors) c × IsHeld w (IsInRows w rows) extreme (at c)) (λ c. IsHeld w (IsInRows w rows) extreme (at c)) h.witnesses (λ c p. p.1) each);
+        different = different_mapped at (HasWidth (length base.vectors)) (sum.at_same w base.vectors fb.widths fb.independent) h.witnesses (each_map (λ c. HasWidth (length base.vectors) c × IsListedOrBoxMember w (IsInRows w rows) extreme (at c)) (HasWidth (length base.vectors)) h.witnesses (λ c p. p.0) each) h.different;
+        only = each_of_map at (IsListedOrBoxMember w (IsInRows w rows) extreme) h.witnesses (each_map (λ c. HasWidth (length base.vectors) c × IsListedOrBoxMember w (IsInRows w rows) extreme (at c)) (λ c. IsListedOrBoxMember w (IsInRows w rows) extreme (at c)) h.witnesses (λ c p. p.1) each);
         more = (let e = length-map h.witnesses at in let m = h.more in omega (arith, e, m));
       }
 

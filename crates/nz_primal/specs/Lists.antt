@@ -1,8 +1,8 @@
 -- What the primal run answers: the irreducible elements of the whole vectors at which all rows are at least 0, their extreme generators, and a good cover of these.
-use Rattle.std.specs.Prelude.{◌≡◌, ◌⊎◌, ℕ, max, List, [], length, pos, false, Contains}
+use Rattle.std.specs.Prelude.{◌≡◌, ◌⊎◌, ℕ, max, List, [], length, pos, false}
 use Rattle.std.specs.List.{AllByRecursion as Each, AllZip}
 use Rattle.nz_spec.specs.Vectors.{Vector, dot, values_at, HasWidth, IsZero}
-use Rattle.nz_spec.specs.Sums.{IsInBox, IsIndependent}
+use Rattle.nz_spec.specs.Boxes.{IsListedOrBoxMember}
 use Rattle.nz_spec.specs.Order.{IsLexBefore, IsListOf, MoreThan}
 use Rattle.nz_spec.specs.Monoids.{IsIrreducible, IsExtreme}
 use Rattle.nz_spec.specs.Forms.{AreDualForms}
@@ -11,7 +11,7 @@ use Rattle.nz_spec.specs.Stages.{ArePlacings}
 use Rattle.nz_linear.specs.Cones.{IsInRows}
 use Rattle.nz_vec.specs.declared.answers.Work.{Work}
 use Rattle.nz_vec.specs.declared.answers.Work.TheVariants.{Range, TooMany, Stopped, NoMemory}
-use Rattle.nz_edge.specs.Telling.{Watched, WasTold, HasPassed, HasPassedAll, HasStopped}
+use Rattle.nz_watch.specs.Telling.{Watched, WasTold, HasPassed, HasPassedAll, HasStopped}
 use Rattle.nz_primal.specs.Second.{IsFaceBase, HaveCoordinates}
 
 -- forms on vectors of one width that are all 0 only at 0
@@ -42,18 +42,6 @@ pub record ArePrimalLists (w : ℕ) (rows order list extreme : List Vector) (sim
   pub cover : IsGoodCover w (IsInRows w rows) extreme simplices
   pub cover_forms : AreCoverForms w rows extreme simplices forms
 
--- a member that is a sum of independent vectors of the list with rational factors of at least 0 and below 1
-pub record IsBoxMember (w : ℕ) (Member : Vector → Type 0) (X : List Vector) (x : Vector) : Type 0 where
-  pub member : Member x
-  pub vectors : List Vector
-  pub of_list : Each (Contains X) vectors
-  pub independent : IsIndependent w vectors
-  pub in_box : IsInBox w vectors x
-
--- a vector of the list, or such a member
-abbrev pub IsHeld : ℕ → (Vector → Type 0) → List Vector → Vector → Type 0
-IsHeld w Member X x = Contains X x ⊎ IsBoxMember w Member X x
-
 -- no stop came, and so many stages were passed: none before the extreme generators are found, and then the first of their placing
 abbrev pub HasPassedFirst : ℕ → (rows order : List Vector) → (told passed : ℕ) → (before now : Watched) → Type 0
 HasPassedFirst w rows order told passed before now = ((passed ≡ 0) × WasTold before now [] false) ⊎ ((extreme : List Vector) × AreGenerators w rows order extreme × HasPassed (ArePlacings w extreme) told passed before now false)
@@ -61,6 +49,6 @@ HasPassedFirst w rows order told passed before now = ((passed ≡ 0) × WasTold 
 -- why there are no lists, and what the watch was told. The number is the greater of the one handed in and that of the stages passed
 abbrev pub IsPrimalRefusal : ℕ → (rows order : List Vector) → (limit told : ℕ) → (before now : Watched) → Work → Type 0
 IsPrimalRefusal w rows order limit told before now (Range number) = (passed : ℕ) × HasPassedFirst w rows order told passed before now × (number ≡ max told passed)
-IsPrimalRefusal w rows order limit told before now TooMany = (extreme : List Vector) × AreGenerators w rows order extreme × HasPassedAll (ArePlacings w extreme) told before now × MoreThan limit (IsHeld w (IsInRows w rows) extreme)
+IsPrimalRefusal w rows order limit told before now TooMany = (extreme : List Vector) × AreGenerators w rows order extreme × HasPassedAll (ArePlacings w extreme) told before now × MoreThan limit (IsListedOrBoxMember w (IsInRows w rows) extreme)
 IsPrimalRefusal w rows order limit told before now (Stopped stage) = (extreme : List Vector) × AreGenerators w rows order extreme × HasStopped (ArePlacings w extreme) told stage before now
 IsPrimalRefusal w rows order limit told before now NoMemory = (passed : ℕ) × HasPassedFirst w rows order told passed before now

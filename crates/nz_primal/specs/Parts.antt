@@ -15,13 +15,12 @@ use Rattle.nz_vec.specs.declared.answers.Num.{Num}
 use Rattle.nz_vec.specs.declared.answers.Num.TheVariants as num
 use Rattle.nz_vec.specs.declared.answers.Work.{Work}
 use Rattle.nz_vec.specs.declared.answers.Work.TheVariants.{Range, TooMany, Stopped, NoMemory}
-use Rattle.nz_facets.specs.Rays.{AreRaysOnce}
+use Rattle.nz_rays.specs.Rays.{AreRaysOnce}
 use Rattle.nz_pointed.specs.Pointed.{IsTooLarge}
-use Rattle.nz_reducer.specs.Reducers.{HasValueOutside}
 use Rattle.nz_primal.specs.Lists.{AreGenerators}
 use Rattle.nz_primal.specs.Second.{VanishesOn, IsFaceBase, HaveCoordinates}
-use Rattle.nz_vec.specs.Sums.{SumsFit}
-use Rattle.nz_sweep.specs.Bases.{ValueSumsFit, CombinationSumsFit}
+use Rattle.nz_vec.specs.Sums.{SumsFit, HasValueOutside}
+use Rattle.nz_sweep.specs.Lists.{LacksPull, LacksVector}
 use Rattle.nz_classes.specs.Walks as walks
 use Rattle.nz_sweep.specs.Numbers.{SomeNumberLarge, IsEquationNumber, IsCoordinateNumber}
 use Rattle.nz_sweep.specs.Rounds.{IsEquationMove}
@@ -143,12 +142,6 @@ pub record LacksCoordinates (h : ℤ) (b : Base) (vs : List Vector) : Type 0 whe
   pub has : Contains vs vector
   pub large : SomeNumberLarge h (IsCoordinateNumber b vector)
 
--- one of the forms cannot be pulled to the base
-pub record LacksPull (fits : ℤ → Type 0) (b : Base) (fs : List Vector) : Type 0 where
-  pub form : Vector
-  pub has : Contains fs form
-  pub outside : ¬ ValueSumsFit fits form b.vectors
-
 -- why there are no second coordinates: the base of the face, the coordinates of a ray in it, or a row in it
 pub data IsSecondCause (h : ℤ) (fits : ℤ → Type 0) (w : ℕ) (rows rays : List Vector) : Type 0 where
   of_face : IsFaceCause h fits w rows rays → IsSecondCause h fits w rows rays
@@ -177,12 +170,6 @@ pub record SomeWalkLarge (bound : ℕ) (rays : List Vector) (simplices : List (L
   pub place : ℕ
   pub within : place < length simplices
   pub large : walks.IsTooLarge bound (vectors_at rays (get_or simplices place [])) (get_or forms place [])
-
--- one of the vectors cannot be brought back from the coordinates of the base
-pub record LacksVector (fits : ℤ → Type 0) (b : Base) (cs : List Vector) : Type 0 where
-  pub coordinates : Vector
-  pub has : Contains cs coordinates
-  pub outside : ¬ CombinationSumsFit fits b.width coordinates b.vectors
 
 -- why there are no elements: a walk, a row at a candidate, or a candidate that cannot be brought back
 pub data IsElementCause (h : ℤ) (fits : ℤ → Type 0) (b : Base) (rays rows : List Vector) (simplices : List (List ℕ)) (forms : List (List Vector)) : Type 0 where

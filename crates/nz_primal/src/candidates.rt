@@ -6,10 +6,9 @@ ghost use Rattle.nz_classes.specs.Classes.{IsPoint};
 ghost use Rattle.nz_classes.specs.Walks.{IsFullSimplex, IsTooLarge};
 ghost use Rattle.nz_primal.specs.Parts.{AreFullSimplices, AreCandidates, ArePointsOf, IsWalkRefusal, IsOneWalkRefusal, WhereRange, SomeWalkLarge};
 
-use crate::generators::copied;
 use nz_classes::walk;
 use nz_cover::Cover;
-use nz_vec::{NoMemory, Places, Rows, Scalar, Work};
+use nz_vec::{Places, Rows, Scalar, Work};
 use std::alloc::Global;
 
 /// The rays, and for each simplex of the cover the whole vectors of its half-open parallelepiped.
@@ -23,7 +22,7 @@ pub(crate) fn candidates<T: Scalar>(
     ensures points { MatchResult result (AreCandidates rays.now cover.now.simplices) (IsWalkRefusal limit rays.now cover.now.simplices) }
     ensures cause { IfErr result (WhereRange (SomeWalkLarge (unsigned_abs T.HALF) rays.now cover.now.simplices cover.now.forms)) }
 {
-    let mut list = match copied(alloc, rays) {
+    let mut list = match rays.try_copy() {
         Ok(list) => list,
         Err(refusal) => return Err(Work::from(refusal)),
     };
@@ -33,7 +32,7 @@ pub(crate) fn candidates<T: Scalar>(
             Ok(points) => points,
             Err(refusal) => return Err(refusal),
         };
-        list = match joined(list, &points) {
+        list = match Rows::joined(list, &points) {
             Ok(list) => list,
             Err(refusal) => return Err(Work::from(refusal)),
         };
@@ -54,7 +53,7 @@ fn walked<T: Scalar>(
     ensures points { MatchResult result (ArePointsOf rays.now places.now) (IsOneWalkRefusal limit rays.now places.now) }
     ensures cause { IfErr result (WhereRange (IsTooLarge (unsigned_abs T.HALF) (vectors_at rays.now places.now) forms.now)) }
 {
-    let sides = match rows_at(alloc, rays, places) {
+    let sides = match rays.at_places(places) {
         Ok(sides) => sides,
         Err(refusal) => return Err(Work::from(refusal)),
     };
@@ -62,40 +61,4 @@ fn walked<T: Scalar>(
         Ok(points) => Ok(points),
         Err(refusal) => Err(refusal),
     }
-}
-
-// The rows at these places.
-fn rows_at<T: Scalar>(alloc: Global, rows: &Rows<T>, places: &Places) -> Result<Rows<T>, NoMemory>
-    requires { Each (λ p. p < length rows.now) places.now }
-    ensures { IfOk result (λ r. r ≡ vectors_at rows.now places.now) }
-{
-    let mut list = Rows::new(alloc);
-    for index in 0..places.len() {
-        let row = match rows.at(places.at(index)).try_copy() {
-            Ok(row) => row,
-            Err(refusal) => return Err(refusal),
-        };
-        match list.push(row) {
-            Ok(()) => {}
-            Err(refusal) => return Err(refusal),
-        }
-    }
-    Ok(list)
-}
-
-// The rows of the list, and then the others.
-fn joined<T: Scalar>(mut list: Rows<T>, others: &Rows<T>) -> Result<Rows<T>, NoMemory>
-    ensures { IfOk result (λ r. r ≡ list ++ others.now) }
-{
-    for place in 0..others.len() {
-        let row = match others.at(place).try_copy() {
-            Ok(row) => row,
-            Err(refusal) => return Err(refusal),
-        };
-        match list.push(row) {
-            Ok(()) => {}
-            Err(refusal) => return Err(refusal),
-        }
-    }
-    Ok(list)
 }

@@ -8,8 +8,9 @@ ghost use Rattle.nz_spec.specs.Monoids.{IsIrreducible};
 ghost use Rattle.nz_linear.specs.Cones.{IsInRows};
 ghost use Rattle.nz_degree.specs.Degrees.{IsInOrder};
 ghost use Rattle.nz_sweep.specs.Bases.{IsBase};
+ghost use Rattle.nz_sweep.specs.Lists.{LacksVector};
 ghost use Rattle.nz_cover.specs.Placing.{IsPlaced};
-ghost use Rattle.nz_primal.specs.Parts.{IsSecondCone, IsVectorOf, IsWalkRefusal, IsFirstRefusal, WhereRange, LacksVector, IsElementCause};
+ghost use Rattle.nz_primal.specs.Parts.{IsSecondCone, IsVectorOf, IsWalkRefusal, IsFirstRefusal, WhereRange, IsElementCause};
 
 use crate::candidates::candidates;
 use crate::keys::ungraded;
@@ -17,7 +18,7 @@ use crate::second::Second;
 use nz_cover::Cover;
 use nz_degree::sort;
 use nz_reducer::irreducibles;
-use nz_sweep::Basis;
+use nz_sweep::{Basis, all_vectors};
 use nz_vec::{Num, Rows, Scalar, Work};
 use std::alloc::Global;
 
@@ -75,7 +76,7 @@ fn brought_back<T: Scalar>(
     ensures order { IfOk result (IsInOrder None) }
     ensures cause { IfErr result (λ e. e ≡ Num.Range → LacksVector T.fits base.now coordinates.now) }
 {
-    let mut list = match vectors(alloc, base, coordinates) {
+    let mut list = match all_vectors(alloc, base, coordinates) {
         Ok(list) => list,
         Err(refusal) => return Err(refusal),
     };
@@ -83,24 +84,4 @@ fn brought_back<T: Scalar>(
         Ok(()) => Ok(list),
         Err(refusal) => Err(refusal),
     }
-}
-
-// The vectors with these coordinates.
-fn vectors<T: Scalar>(alloc: Global, base: &Basis<T>, coordinates: &Rows<T>) -> Result<Rows<T>, Num>
-    requires { Each (HasWidth (length base.now.vectors)) coordinates.now }
-    ensures back { IfOk result (λ r. r ≡ map (λ c. combination base.now.width c base.now.vectors) coordinates.now) }
-    ensures cause { IfErr result (λ e. e ≡ Num.Range → LacksVector T.fits base.now coordinates.now) }
-{
-    let mut list = Rows::new(alloc);
-    for place in 0..coordinates.len() {
-        let vector = match base.vector(alloc, coordinates.at(place)) {
-            Ok(vector) => vector,
-            Err(refusal) => return Err(refusal),
-        };
-        match list.push(vector) {
-            Ok(()) => {}
-            Err(refusal) => return Err(Num::from(refusal)),
-        }
-    }
-    Ok(list)
 }

@@ -1,9 +1,9 @@
 // Vectors in the order of the values of forms: before its entries each gets its values.
 ghost use Rattle.std.specs.Prelude.{◌≡◌, ◌≢◌, ◌++◌, ◌∷◌, [], map, drop, IfOk, IfErr, length, Contains, None, ◌+◌};
-ghost use Rattle.nz_reducer.specs.Reducers.{HasValueOutside};
 ghost use Rattle.std.specs.List.{AllByRecursion as Each};
-ghost use Rattle.nz_spec.specs.Vectors.{Vector, HasWidth, values_at};
+ghost use Rattle.nz_spec.specs.Vectors.{HasWidth};
 ghost use Rattle.nz_spec.specs.Order.{Pairwise, IsListOf};
+ghost use Rattle.nz_vec.specs.Sums.{HasValueOutside};
 ghost use Rattle.nz_primal.specs.Lists.{AreSeparating, IsBeforeBy};
 ghost use Rattle.nz_primal.specs.Parts.{keyed};
 
@@ -59,7 +59,7 @@ fn all_keyed<T: Scalar>(
 {
     let mut keys = Rows::new(alloc);
     for place in 0..vectors.len() {
-        let key = match key_of(alloc, vectors.at(place), order) {
+        let key = match key_of(vectors.at(place), order) {
             Ok(key) => key,
             Err(refusal) => return Err(refusal),
         };
@@ -72,39 +72,19 @@ fn all_keyed<T: Scalar>(
 }
 
 // The values of the forms at the vector, and then its entries.
-fn key_of<T: Scalar>(alloc: Global, vector: &Row<T>, order: &Rows<T>) -> Result<Row<T>, Num>
+fn key_of<T: Scalar>(vector: &Row<T>, order: &Rows<T>) -> Result<Row<T>, Num>
     requires { Each (HasWidth (length vector.now)) order.now }
     ensures key { IfOk result (λ r. r ≡ keyed order.now vector.now) }
     ensures cause { IfErr result (λ e. e ≡ Num.Range → HasValueOutside T.fits order.now (vector.now ∷ [])) }
 {
-    let values = match values_of(alloc, vector, order) {
+    let values = match order.values_at(vector) {
         Ok(values) => values,
         Err(refusal) => return Err(refusal),
     };
-    match with_entries(values, vector) {
+    match with_entries(values.into_vec(), vector) {
         Ok(key) => Ok(Row::from_vec(key)),
         Err(refusal) => Err(Num::from(refusal)),
     }
-}
-
-// The values of the forms at the vector.
-fn values_of<T: Scalar>(alloc: Global, vector: &Row<T>, order: &Rows<T>) -> Result<Vec<T>, Num>
-    requires { Each (HasWidth (length vector.now)) order.now }
-    ensures values { IfOk result (λ v. map T.integer v.items ≡ values_at order.now vector.now) }
-    ensures cause { IfErr result (λ e. e ≡ Num.Range → HasValueOutside T.fits order.now (vector.now ∷ [])) }
-{
-    let mut values = Vec::new(alloc);
-    for place in 0..order.len() {
-        let value = match order.at(place).dot(vector) {
-            Some(value) => value,
-            None => return Err(Num::Range),
-        };
-        match values.push(value) {
-            Ok(()) => {}
-            Err(_) => return Err(Num::NoMemory),
-        }
-    }
-    Ok(values)
 }
 
 // Appends the entries of the vector.

@@ -3,7 +3,7 @@ ghost use Rattle.std.specs.Prelude.{◌≡◌, ◌≤◌, length, MatchResult, I
 ghost use Rattle.std.specs.List.{AllByRecursion as Each};
 ghost use Rattle.nz_spec.specs.Vectors.{HasWidth};
 ghost use Rattle.nz_spec.specs.Stages.{ArePlacings};
-ghost use Rattle.nz_edge.specs.Telling.{HasPassedAll};
+ghost use Rattle.nz_watch.specs.Telling.{HasPassedAll};
 ghost use Rattle.nz_pointed.specs.Pointed.{IsSimplexOf};
 ghost use Rattle.nz_primal.specs.Lists.{AreSeparating, ArePrimalLists, IsPrimalRefusal};
 ghost use Rattle.nz_measures.specs.Sweeps.{Sweeps, whole_base};
@@ -14,9 +14,9 @@ use crate::elements::elements;
 use crate::generators::generators;
 use crate::second::{Second, in_second};
 use nz_cover::{Cover, place};
-use nz_edge::Watch;
 use nz_pointed::Simplex;
 use nz_vec::{Num, Rows, Scalar, Work};
+use nz_watch::Watch;
 use std::alloc::Global;
 
 /// What the primal run finds.
@@ -40,8 +40,10 @@ pub struct PrimalLists<T: Scalar> {
 /// `order`, the first form first. A stage is the number of extreme generators placed and that of the
 /// facets of their cone; the first `told_before` stages are not told. TooMany comes where a simplex has
 /// more than `limit` points, or there are more irreducible elements. The number of Range is the
-/// greater of `told_before` and the number of stages passed in this call; which numbers make it Range
-/// is not stated. Only Stopped comes after a stop of the watch.
+/// greater of `told_before` and the number of stages passed in this call. Range comes only where a
+/// number that the run is known to form is above `HALF`: an entry of a sweep, a row or a form of `order`
+/// at an extreme generator, or one of the cover and its simplices in second coordinates. Only Stopped
+/// comes after a stop of the watch.
 pub fn primal<T: Scalar>(
     alloc: Global,
     rows: &Rows<T>,
@@ -54,7 +56,7 @@ pub fn primal<T: Scalar>(
     requires widths { Each (HasWidth (length simplex.now.places)) rows.now }
     requires simplex { IsSimplexOf (length simplex.now.places) rows.now simplex.now.places simplex.now.rays }
     requires order { AreSeparating (length simplex.now.places) order.now }
-    ensures lists { MatchResult result (λ p. ArePrimalLists (length simplex.now.places) rows.now order.now p.list p.extreme p.cover.simplices p.cover.forms × HasPassedAll (ArePlacings (length simplex.now.places) p.extreme) told_before (record { told = told watch.old; patience = patience watch.old; stops = stops watch.old }) (record { told = told watch.new; patience = patience watch.new; stops = stops watch.new })) (λ e. IsPrimalRefusal (length simplex.now.places) rows.now order.now limit told_before (record { told = told watch.old; patience = patience watch.old; stops = stops watch.old }) (record { told = told watch.new; patience = patience watch.new; stops = stops watch.new }) e) }
+    ensures lists { MatchResult result (λ p. ArePrimalLists (length simplex.now.places) rows.now order.now p.list p.extreme p.cover.simplices p.cover.forms × HasPassedAll (ArePlacings (length simplex.now.places) p.extreme) told_before (seen watch.old) (seen watch.new)) (λ e. IsPrimalRefusal (length simplex.now.places) rows.now order.now limit told_before (seen watch.old) (seen watch.new) e) }
     ensures within { IfOk result (λ p. length p.list ≤ limit) }
     ensures range { IfErr result (WhereRange (HasPrimalAbove T.HALF (length simplex.now.places) rows.now order.now)) }
 {

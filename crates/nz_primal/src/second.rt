@@ -3,13 +3,12 @@ ghost use Rattle.std.specs.Prelude.{◌≡◌, map, length, IfOk, IfErr, OnOk, M
 ghost use Rattle.std.specs.List.{AllByRecursion as Each};
 ghost use Rattle.nz_spec.specs.Vectors.{HasWidth, combination};
 ghost use Rattle.nz_spec.specs.Sums.{IsInGroup};
-ghost use Rattle.nz_linear.specs.Coordinates.{in_coordinates};
 ghost use Rattle.nz_primal.specs.Second.{VanishesOn, IsFaceBase, HaveCoordinates};
 ghost use Rattle.nz_measures.specs.Sweeps.{Sweeps, whole_base};
-ghost use Rattle.nz_primal.specs.Parts.{IsSecond, IsCutAt, LacksValue, MoveOn, IsCutCause, IsFaceCause, LacksCoordinates, LacksPull, IsSecondCause};
+ghost use Rattle.nz_primal.specs.Parts.{IsSecond, IsCutAt, LacksValue, MoveOn, IsCutCause, IsFaceCause, LacksCoordinates, IsSecondCause};
 ghost use Rattle.nz_sweep.specs.Numbers.{SomeNumberLarge, IsCoordinateNumber};
 
-use nz_sweep::Basis;
+use nz_sweep::{Basis, all_pulled};
 use nz_vec::{Num, Row, Rows, Scalar};
 use std::alloc::Global;
 
@@ -157,24 +156,4 @@ fn coordinates_of<T: Scalar>(alloc: Global, base: &Basis<T>, vector: &Row<T>) ->
         },
         Err(refusal) => Err(refusal),
     }
-}
-
-// The rows in coordinates.
-fn all_pulled<T: Scalar>(alloc: Global, base: &Basis<T>, rows: &Rows<T>) -> Result<Rows<T>, Num>
-    requires { Each (HasWidth base.now.width) rows.now }
-    ensures pulled { IfOk result (λ r. r ≡ map (λ h. in_coordinates base.now.vectors h) rows.now) }
-    ensures cause { IfErr result (λ e. e ≡ Num.Range → LacksPull T.fits base.now rows.now) }
-{
-    let mut list = Rows::new(alloc);
-    for place in 0..rows.len() {
-        let pulled = match base.pull(alloc, rows.at(place)) {
-            Ok(pulled) => pulled,
-            Err(refusal) => return Err(refusal),
-        };
-        match list.push(pulled) {
-            Ok(()) => {}
-            Err(refusal) => return Err(Num::from(refusal)),
-        }
-    }
-    Ok(list)
 }

@@ -1,6 +1,5 @@
 use Rattle.std.proofs.Common.{unsigned_abs}
 use Rattle.nz_spec.specs.Covers.{vectors_at}
-use Rattle.nz_primal.proofs.CandidateLemmas.{points_of, one_refused}
 use Rattle.nz_primal.proofs.RangeLemmas.{walk_where}
 use Rattle.nz_primal.proofs.candidates.walked.Goals as goal
 

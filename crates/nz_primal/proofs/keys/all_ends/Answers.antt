@@ -1,5 +1,5 @@
 use Rattle.std.proofs.Common.{drop, arith}
-use Rattle.nz_primal.proofs.LoopLemmas.{mapped_more}
+use Rattle.nz_sweep.proofs.BaseLemmas.{mapped_more}
 use Rattle.nz_primal.proofs.keys.all_ends.Goals as goal
 
 pub loop-place-preserved : goal.loop-place-preserved

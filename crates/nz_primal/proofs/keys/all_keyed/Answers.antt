@@ -1,6 +1,6 @@
 use Rattle.std.proofs.Common.{arith}
 use Rattle.nz_primal.specs.Parts.{keyed}
-use Rattle.nz_primal.proofs.LoopLemmas.{mapped_more}
+use Rattle.nz_sweep.proofs.BaseLemmas.{mapped_more}
 use Rattle.nz_primal.proofs.keys.all_keyed.Goals as goal
 
 pub loop-place-preserved : goal.loop-place-preserved

@@ -1,4 +1,4 @@
-use Rattle.std.proofs.Common.{ℕ, length, subst}
+use Rattle.std.proofs.Common.{ℕ, subst}
 use Rattle.nz_primal.specs.Parts.{IsSecondCause, of_generators, of_second}
 use Rattle.nz_primal.proofs.running.settled.Goals as goal
 

@@ -1,6 +1,6 @@
 use Rattle.std.proofs.Common.{◌<◌, length, arith}
 use Rattle.nz_primal.proofs.FaceLemmas.{face_from_units, face_step}
-use Rattle.nz_primal.proofs.FaceMoves.{moves_start, moves_more, moves_all, moves_refused}
+use Rattle.nz_primal.proofs.FaceMoves.{moves_start, moves_more, moves_refused}
 use Rattle.nz_primal.proofs.second.face.Goals as goal
 
 pub loop-place-init : goal.loop-place-init

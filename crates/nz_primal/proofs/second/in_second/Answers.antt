@@ -9,4 +9,4 @@ pub returns-in-Err-all_coordinates-clause-cause : goal.returns-in-Err-all_coordi
 returns-in-Err-all_coordinates-clause-cause g c = λ e. of_coordinates c.in-Ok.ensures.sweeps (c.in-Err-all_coordinates.ensures.cause e)
 
 pub returns-in-Err-all_pulled-clause-cause : goal.returns-in-Err-all_pulled-clause-cause
-returns-in-Err-all_pulled-clause-cause g c = λ e. of_pull c.in-Ok.ensures.sweeps (c.in-Err-all_pulled.ensures.cause e)
+returns-in-Err-all_pulled-clause-cause g c = λ e. of_pull c.in-Ok.ensures.sweeps (c.in-Err-all_pulled.ensures e)

@@ -1,6 +1,0 @@
-use Rattle.std.proofs.Common.{length}
-use Rattle.nz_facets.proofs.RayLemmas.{IsHeld}
-use Rattle.nz_primal.proofs.generators.extreme_rays.Given as goal
-
-abbrev pub invariant-loop-place : goal.invariant-loop-place
-invariant-loop-place g l = IsHeld (length l.simplex.places) l.rows l.simplex.places l.place l.double

@@ -1,6 +1,0 @@
-use Rattle.std.proofs.Common.{◌≢◌, take}
-use Rattle.std.specs.List.{AllByRecursion as Each}
-use Rattle.nz_primal.proofs.generators.has.Given as goal
-
-abbrev pub invariant-loop-index : goal.invariant-loop-index
-invariant-loop-index l = Each (λ p. p ≢ l.place) (take l.index l.places)
