@@ -5,8 +5,9 @@
 //! There is nothing to read before `main`; then go on with `run`.
 #![tactic(auto)]
 
-use nz_edge::{DiskFolder, LinesWatch, QuietWatch, StdSink, StopWatch, Watch};
+use nz_edge::{DiskFolder, LinesWatch, StdSink, StopWatch};
 use nz_run::{Status, run};
+use nz_watch::{QuietWatch, Watch};
 use nz_words::watch_choice;
 use std::io::ErrorKind;
 use std::process::ExitCode;

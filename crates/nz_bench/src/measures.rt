@@ -9,11 +9,11 @@ ghost use Rattle.nz_reducer.specs.Reducers.{AreSeparated};
 use nz_classes::walk;
 use nz_cover::place;
 use nz_dual::dual;
-use nz_edge::{QuietWatch, Watch};
 use nz_pointed::{Pointed, Simplex, start};
 use nz_rays::Double;
 use nz_reducer::irreducibles;
 use nz_vec::{NoMemory, Places, Rows};
+use nz_watch::{QuietWatch, Watch};
 use std::alloc::Global;
 
 /// What is measured.

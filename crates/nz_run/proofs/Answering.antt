@@ -4,7 +4,7 @@ use Rattle.nz_vec.specs.Texts.{Text}
 use Rattle.nz_input.specs.Files.{FileData}
 use Rattle.nz_input.specs.declared.kind.Goal.{Goal}
 use Rattle.nz_system.specs.Meaning.{SystemData, meaning}
-use Rattle.nz_edge.specs.Telling.{Watched, HasPassedAll}
+use Rattle.nz_watch.specs.Telling.{Watched, HasPassedAll}
 use Rattle.nz_solve.specs.Solutions.{AreToldOf, IsSolveRefusal}
 use Rattle.nz_solve.specs.declared.refusal.SolveRefusal.{SolveRefusal}
 use Rattle.nz_solve.specs.declared.refusal.SolveRefusal.TheVariants as solve

@@ -4,10 +4,10 @@ use Rattle.std.specs.Prelude.{IsFalse}
 use Rattle.std.proofs.lemmas.List.{take_all}
 use Rattle.nz_vec.specs.Texts.{Text}
 use Rattle.nz_edge.specs.Folders.{Files, BothTold, SameFiles, SameOthers, Stores}
-use Rattle.nz_edge.specs.Counts.{Rose, IsQuiet}
-use Rattle.nz_edge.specs.Watching.{Pair}
-use Rattle.nz_edge.specs.Telling.{Watched, HasPassedAll}
-use Rattle.nz_edge.proofs.TellingLemmas.{none_told}
+use Rattle.nz_watch.specs.Counts.{Rose, IsQuiet}
+use Rattle.nz_watch.specs.Watching.{Pair}
+use Rattle.nz_watch.specs.Telling.{Watched, HasPassedAll}
+use Rattle.nz_watch.proofs.TellingLemmas.{none_told}
 use Rattle.nz_input.specs.Files.{FileData}
 use Rattle.nz_system.specs.Meaning.{system_of}
 use Rattle.nz_solve.specs.Solutions.{WasToldSome}
@@ -142,7 +142,7 @@ says_refused goals limit w w' input (Grammar l k g) h = h.2
 says_refused goals limit w w' input (Meaning l k g) h = h.cause.1
 says_refused goals limit w w' input (NotBuilt v) h = h.cause.2
 says_refused goals limit w w' input (Line v) h = h.cause.refused.1
-says_refused goals limit w w' input Range h = some_pairs w w' h.file h.cause.refused
+says_refused goals limit w w' input Range h = some_pairs w w' h.file h.cause.refused.1
 says_refused goals limit w w' input TooMany h = all_pairs w w' h.cause.refused.1
 says_refused goals limit w w' input (Stopped k) h = (_, h.cause.refused.telling.was_told)
 says_refused goals limit w w' input WriteFault h = absurd h

@@ -10,9 +10,9 @@ use Rattle.nz_system.specs.declared.refusal.SystemRefusal.TheVariants as refusal
 use Rattle.nz_blocks.specs.Outcomes.{OutcomeData}
 use Rattle.nz_blocks.specs.Output.{text_of}
 use Rattle.nz_edge.specs.Folders.{Files, SameFiles, SameOthers, Stores}
-use Rattle.nz_edge.specs.Counts.{IsQuiet, Rose}
-use Rattle.nz_edge.specs.Watching.{Pair}
-use Rattle.nz_edge.specs.Telling.{Watched, WasTold, HasPassedAll}
+use Rattle.nz_watch.specs.Counts.{IsQuiet, Rose}
+use Rattle.nz_watch.specs.Watching.{Pair}
+use Rattle.nz_watch.specs.Telling.{Watched, WasTold, HasPassedAll}
 use Rattle.nz_solve.specs.Solutions.{IsSolution, IsWithin, AreToldOf, IsSolveRefusal}
 use Rattle.nz_solve.specs.declared.refusal.SolveRefusal.{SolveRefusal}
 use Rattle.nz_solve.specs.declared.refusal.SolveRefusal.TheVariants as solve

@@ -1,7 +1,7 @@
 //! From the bytes of the input to the bytes of the output.
 ghost use Rattle.std.specs.Prelude.{◌≡◌, MatchResult};
 ghost use Rattle.nz_system.specs.Meaning.{system_of, meaning};
-ghost use Rattle.nz_edge.specs.Telling.{HasPassedAll};
+ghost use Rattle.nz_watch.specs.Telling.{HasPassedAll};
 ghost use Rattle.nz_solve.specs.Solutions.{IsPlain, AreToldOf, IsSolveRefusal};
 ghost use Rattle.nz_run.specs.FileSystems.{HasMeaning};
 ghost use Rattle.nz_run.specs.Runs.{IsAnswered, IsFileSolved, IsSolved, IsCauseIn, IsCause, status_of};
@@ -9,11 +9,11 @@ ghost use Rattle.nz_run.specs.Runs.{IsAnswered, IsFileSolved, IsSolved, IsCauseI
 use crate::Status;
 use crate::built::first_unbuilt;
 use nz_blocks::blocks;
-use nz_edge::Watch;
 use nz_input::{File, Goals, ReadRefusal, read};
 use nz_solve::{SolveRefusal, solve};
 use nz_system::{System, SystemRefusal, system_of};
 use nz_vec::Bytes;
+use nz_watch::Watch;
 use std::alloc::Global;
 
 /// The most bytes that an input may have.
@@ -27,7 +27,7 @@ fn answer(
     watch: &mut Box<dyn Watch>,
 ) -> Result<Bytes, SolveRefusal>
     requires { IsPlain system.now }
-    ensures { MatchResult result (λ text. IsAnswered system.now limit text × HasPassedAll (AreToldOf system.now.system) 0 (record { told = told watch.old; patience = patience watch.old; stops = stops watch.old }) (record { told = told watch.new; patience = patience watch.new; stops = stops watch.new })) (IsSolveRefusal system.now.system limit (record { told = told watch.old; patience = patience watch.old; stops = stops watch.old }) (record { told = told watch.new; patience = patience watch.new; stops = stops watch.new })) }
+    ensures { MatchResult result (λ text. IsAnswered system.now limit text × HasPassedAll (AreToldOf system.now.system) 0 (seen watch.old) (seen watch.new)) (IsSolveRefusal system.now.system limit (seen watch.old) (seen watch.new)) }
 {
     let outcome = match solve(alloc, system, limit, watch) {
         Ok(outcome) => outcome,
@@ -62,7 +62,7 @@ fn meant(
 ) -> Result<Bytes, Status>
     requires meaning { HasMeaning file.now goals.now }
     requires system { system.now ≡ meaning file.now goals.now }
-    ensures { MatchResult result (IsFileSolved goals.now limit (record { told = told watch.old; patience = patience watch.old; stops = stops watch.old }) (record { told = told watch.new; patience = patience watch.new; stops = stops watch.new }) file.now) (IsCauseIn goals.now limit (record { told = told watch.old; patience = patience watch.old; stops = stops watch.old }) (record { told = told watch.new; patience = patience watch.new; stops = stops watch.new }) file.now) }
+    ensures { MatchResult result (IsFileSolved goals.now limit (seen watch.old) (seen watch.new) file.now) (IsCauseIn goals.now limit (seen watch.old) (seen watch.new) file.now) }
 {
     match first_unbuilt(file, goals) {
         Some(word) => return Err(Status::NotBuilt(word)),
@@ -82,7 +82,7 @@ fn file_solved(
     limit: u32,
     watch: &mut Box<dyn Watch>,
 ) -> Result<Bytes, Status>
-    ensures { MatchResult result (IsFileSolved goals.now limit (record { told = told watch.old; patience = patience watch.old; stops = stops watch.old }) (record { told = told watch.new; patience = patience watch.new; stops = stops watch.new }) file.now) (IsCauseIn goals.now limit (record { told = told watch.old; patience = patience watch.old; stops = stops watch.old }) (record { told = told watch.new; patience = patience watch.new; stops = stops watch.new }) file.now) }
+    ensures { MatchResult result (IsFileSolved goals.now limit (seen watch.old) (seen watch.new) file.now) (IsCauseIn goals.now limit (seen watch.old) (seen watch.new) file.now) }
 {
     match system_of(alloc, file, goals) {
         Ok(system) => meant(alloc, file, goals, &system, limit, watch),
@@ -101,7 +101,7 @@ pub fn solved(
     limit: u32,
     watch: &mut Box<dyn Watch>,
 ) -> Result<Bytes, Status>
-    ensures { MatchResult result (IsSolved goals.now limit (record { told = told watch.old; patience = patience watch.old; stops = stops watch.old }) (record { told = told watch.new; patience = patience watch.new; stops = stops watch.new }) input.now) (IsCause goals.now limit (record { told = told watch.old; patience = patience watch.old; stops = stops watch.old }) (record { told = told watch.new; patience = patience watch.new; stops = stops watch.new }) input.now) }
+    ensures { MatchResult result (IsSolved goals.now limit (seen watch.old) (seen watch.new) input.now) (IsCause goals.now limit (seen watch.old) (seen watch.new) input.now) }
 {
     if input.len() > MOST {
         return Err(Status::TooLong);

@@ -1,7 +1,7 @@
 //! The line of a status, written to the console without memory.
 ghost use Rattle.std.specs.Prelude.{◌≡◌, ◌≤◌, ◌++◌, IsFalse, codes, decimal};
 ghost use Rattle.std.specs.Fmt.{signed_decimal};
-ghost use Rattle.nz_edge.specs.Counts.{Rose};
+ghost use Rattle.nz_watch.specs.Counts.{Rose};
 ghost use Rattle.nz_edge.specs.Folders.{BothTold};
 ghost use Rattle.nz_edge.specs.Answers.{PutAll};
 ghost use Rattle.nz_blocks.specs.Lines.{line};

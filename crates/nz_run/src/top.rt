@@ -8,9 +8,10 @@ ghost use Rattle.nz_run.specs.Runs.{Explains, ExplainsFor, Decided, PutsLine, Le
 use crate::Status;
 use crate::solving::{MOST, solved};
 use crate::status_lines::put_status;
-use nz_edge::{Folder, Load, Sink, Stored, Watch};
+use nz_edge::{Folder, Load, Sink, Stored};
 use nz_input::Goals;
 use nz_vec::NoMemory;
+use nz_watch::Watch;
 use nz_words::{WordsRefusal, order};
 use std::alloc::Global;
 
@@ -37,8 +38,8 @@ fn solve_and_store<F: Folder>(
     folder: &mut F,
     watch: &mut Box<dyn Watch>,
 ) -> Status
-    ensures outcome { BothTold (F.files folder.old) (F.files folder.new) (Leaves goals.now limit (record { told = told watch.old; patience = patience watch.old; stops = stops watch.old }) (record { told = told watch.new; patience = patience watch.new; stops = stops watch.new }) output_name.now input.now result) }
-    ensures watch { WatchSays result (record { told = told watch.old; patience = patience watch.old; stops = stops watch.old }) (record { told = told watch.new; patience = patience watch.new; stops = stops watch.new }) }
+    ensures outcome { BothTold (F.files folder.old) (F.files folder.new) (Leaves goals.now limit (seen watch.old) (seen watch.new) output_name.now input.now result) }
+    ensures watch { WatchSays result (seen watch.old) (seen watch.new) }
     ensures count { StoreCount result (F.store_faults folder.old) (F.store_faults folder.new) }
     ensures faults { F.faults folder.new ≡ F.faults folder.old }
     ensures misses { F.misses folder.new ≡ F.misses folder.old }
@@ -64,8 +65,8 @@ fn run_project<F: Folder>(
     folder: &mut F,
     watch: &mut Box<dyn Watch>,
 ) -> Status
-    ensures outcome { BothTold (F.files folder.old) (F.files folder.new) (ExplainsFor project.now goals.now limit (record { told = told watch.old; patience = patience watch.old; stops = stops watch.old }) (record { told = told watch.new; patience = patience watch.new; stops = stops watch.new }) (F.faults folder.old) (F.faults folder.new) result) }
-    ensures watch { WatchSays result (record { told = told watch.old; patience = patience watch.old; stops = stops watch.old }) (record { told = told watch.new; patience = patience watch.new; stops = stops watch.new }) }
+    ensures outcome { BothTold (F.files folder.old) (F.files folder.new) (ExplainsFor project.now goals.now limit (seen watch.old) (seen watch.new) (F.faults folder.old) (F.faults folder.new) result) }
+    ensures watch { WatchSays result (seen watch.old) (seen watch.new) }
     ensures count { CountRose result (F.faults folder.old) (F.faults folder.new) (F.misses folder.old) (F.misses folder.new) (F.store_faults folder.old) (F.store_faults folder.new) }
     ensures not_usage { ¬ (result ≡ Status.Usage) }
 {
@@ -100,8 +101,8 @@ fn run_words<F: Folder>(
     folder: &mut F,
     watch: &mut Box<dyn Watch>,
 ) -> Status
-    ensures outcome { BothTold (F.files folder.old) (F.files folder.new) (Explains (bytes_of_each words.now) (record { told = told watch.old; patience = patience watch.old; stops = stops watch.old }) (record { told = told watch.new; patience = patience watch.new; stops = stops watch.new }) (F.faults folder.old) (F.faults folder.new) result) }
-    ensures watch { WatchSays result (record { told = told watch.old; patience = patience watch.old; stops = stops watch.old }) (record { told = told watch.new; patience = patience watch.new; stops = stops watch.new }) }
+    ensures outcome { BothTold (F.files folder.old) (F.files folder.new) (Explains (bytes_of_each words.now) (seen watch.old) (seen watch.new) (F.faults folder.old) (F.faults folder.new) result) }
+    ensures watch { WatchSays result (seen watch.old) (seen watch.new) }
     ensures usage { result ≡ Status.Usage → AreRefused (bytes_of_each words.now) }
     ensures usage_always { AreRefused (bytes_of_each words.now) → Decided result Status.Usage }
     ensures count { CountRose result (F.faults folder.old) (F.faults folder.new) (F.misses folder.old) (F.misses folder.new) (F.store_faults folder.old) (F.store_faults folder.new) }
@@ -133,7 +134,7 @@ pub fn run<F: Folder, S: Sink>(
     // What the status says of the words, the input, the files and the watch. At Done the stored text lists exactly the irreducible
     // elements of the monoid that the input's file defines, each once, in order, and what else was asked; the watch was told all stages
     // of its system. Each refusal has its cause, and leaves every file as it was.
-    ensures outcome { BothTold (F.files folder.old) (F.files folder.new) (Explains (bytes_of_each words.now) (record { told = told watch.old; patience = patience watch.old; stops = stops watch.old }) (record { told = told watch.new; patience = patience watch.new; stops = stops watch.new }) (F.faults folder.old) (F.faults folder.new) result) }
+    ensures outcome { BothTold (F.files folder.old) (F.files folder.new) (Explains (bytes_of_each words.now) (seen watch.old) (seen watch.new) (F.faults folder.old) (F.faults folder.new) result) }
 
     // Words that order nothing are refused, and no others.
     ensures usage { result ≡ Status.Usage → AreRefused (bytes_of_each words.now) }
@@ -143,7 +144,7 @@ pub fn run<F: Folder, S: Sink>(
     ensures count { CountRose result (F.faults folder.old) (F.faults folder.new) (F.misses folder.old) (F.misses folder.new) (F.store_faults folder.old) (F.store_faults folder.new) }
 
     // Stopped comes just where the watch stopped the run, and before the meaning of the file is clear the watch is told nothing.
-    ensures watch { WatchSays result (record { told = told watch.old; patience = patience watch.old; stops = stops watch.old }) (record { told = told watch.new; patience = patience watch.new; stops = stops watch.new }) }
+    ensures watch { WatchSays result (seen watch.old) (seen watch.new) }
 
     // The console grew by the status line, or after a fault by some first bytes of it.
     ensures console { BothTold (S.written console.old) (S.written console.new) (PutsLine (S.faults console.old) (S.faults console.new) result) }

@@ -13,6 +13,7 @@ use Rattle.nz_spec.specs.Elements.{IsHilbertElement, IsHilbertBasis, AreExtreme}
 use Rattle.nz_spec.specs.Covers.{IsGoodCover}
 use Rattle.nz_spec.specs.Stages.{ArePlacings}
 use Rattle.nz_spec.proofs.ListLaws.{Each-contains}
+use Rattle.nz_spec.specs.Boxes.{IsListedOrBoxMember}
 use Rattle.nz_linear.specs.Cones.{IsInRows}
 use Rattle.nz_linear.specs.Extreme.{IsPointed}
 use Rattle.nz_linear.specs.Coordinates.{AreCoordinates}
@@ -20,15 +21,15 @@ use Rattle.nz_linear.proofs.Coordinates.{irreducible_forth, irreducible_back, ex
 use Rattle.nz_linear.proofs.Lists.{each_map, each_of_map}
 use Rattle.nz_order.proofs.SortLaws.{IsListOf-where, Pairwise-weaker}
 use Rattle.nz_degree.specs.Degrees.{IsInOrder}
-use Rattle.nz_edge.specs.Watching.{Pair}
-use Rattle.nz_edge.specs.Telling.{Watched, HasPassedAll}
+use Rattle.nz_watch.specs.Watching.{Pair}
+use Rattle.nz_watch.specs.Telling.{Watched, HasPassedAll}
 use Rattle.nz_vec.specs.declared.answers.Work.{Work}
 use Rattle.nz_vec.specs.declared.answers.Work.TheVariants as work
 use Rattle.nz_pointed.specs.Pointed.{IsSimplexOf}
 use Rattle.nz_rays.proofs.StartLemmas.{simplex_width, simplex_at_width}
 use Rattle.nz_sweep.specs.Bases.{Base, IsBase}
-use Rattle.nz_primal.specs.Lists.{AreSeparating, IsBeforeBy, AreGenerators, ArePrimalLists, IsHeld, HasPassedFirst, IsPrimalRefusal}
-use Rattle.nz_primal.specs.Parts.{IsVectorOf}
+use Rattle.nz_primal.specs.Lists.{AreSeparating, IsBeforeBy, AreGenerators, ArePrimalLists, HasPassedFirst, IsPrimalRefusal}
+use Rattle.nz_primal.specs.Parts.{IsVectorOf, WhereRange}
 use Rattle.nz_primal.proofs.SumCoordinates as sum
 use Rattle.nz_primal.proofs.CoverCoordinates.{cover_forth}
 use Rattle.nz_primal.proofs.PlacingCoordinates.{placings_forth}
@@ -36,9 +37,12 @@ use Rattle.nz_primal.proofs.ElementLemmas.{brought_back, different_mapped}
 use Rattle.nz_primal.proofs.GeneratorLemmas.{pointed_of_simplex}
 use Rattle.nz_primal.proofs.RunLemmas.{passed_where, all_where, stopped_where}
 use Rattle.nz_solve.specs.declared.refusal.SolveRefusal.{SolveRefusal}
-use Rattle.nz_solve.specs.Solutions.{AreToldOf, WasToldSome, IsCrowd, IsWithin, IsSolveRefusal}
-use Rattle.nz_solve.specs.Parts.{IsFrame, AreElements, AreBroughtBack, IsSameRefusal, entry_forms, vector_at}
-use Rattle.nz_solve.proofs.FrameLemmas.{frame_base, frame_wide, frame_coordinates, frame_positive, before_by_entries, entries_separate}
+use Rattle.nz_measures.specs.Reaches.{IsPrimalReachAbove}
+use Rattle.nz_solve.specs.Solutions.{AreToldOf, WasToldSome, IsCrowd, IsWithin, half, IsSolveRefusal}
+use Rattle.nz_frame.specs.Frames.{IsFrame, entry_forms, vector_at}
+use Rattle.nz_solve.specs.Parts.{AreElements, AreBroughtBack, IsSameRefusal}
+use Rattle.nz_frame.proofs.FrameLemmas.{frame_base, frame_wide, frame_coordinates, frame_positive}
+use Rattle.nz_solve.proofs.EntryLemmas.{before_by_entries, entries_separate}
 
 pairwise_mapped : (R S : Vector → Vector → Type 0) (f : Vector → Vector) → ((x y : Vector) → R x y → S (f x) (f y)) → (xs : List Vector) → Pairwise R xs → Pairwise S (map f xs)
 pairwise_mapped R S f h [] r = tt
@@ -108,7 +112,7 @@ module _ (s : System) (base : Base) (pulled : List Vector) (is : IsSystem s) (fr
   all_told extreme a c g h = all_where (ArePlacings (length base.vectors) extreme) (AreToldOf s) (told_back extreme g) 0 a c h
 
   -- ---- what is held
-  held_back : (extreme : List Vector) → Each (HasWidth (length base.vectors)) extreme → (c : Vector) → IsHeld (length base.vectors) (IsInRows (length base.vectors) pulled) extreme c → IsHeld base.width (IsMember s) (map (vector_at base) extreme) (vector_at base c)
+  held_back : (extreme : List Vector) → Each (HasWidth (length base.vectors)) extreme → (c : Vector) → IsListedOrBoxMember (length base.vectors) (IsInRows (length base.vectors) pulled) extreme c → IsListedOrBoxMember base.width (IsMember s) (map (vector_at base) extreme) (vector_at base c)
   held_back extreme l c (inl h) = inl (sum.mapped_has (vector_at base) extreme c h)
   held_back extreme l c (inr h) =
       let lv : Each (HasWidth (length base.vectors)) h.vectors = each_map (Contains extreme) (HasWidth (length base.vectors)) h.vectors (λ v m. sum_width v m) h.of_list in
@@ -123,24 +127,24 @@ module _ (s : System) (base : Base) (pulled : List Vector) (is : IsSystem s) (fr
       sum_width : (v : Vector) → Contains extreme v → HasWidth (length base.vectors) v
       sum_width v m = Each-contains (HasWidth (length base.vectors)) extreme v l m
 
-  held_width : (extreme : List Vector) → Each (HasWidth (length base.vectors)) extreme → (c : Vector) → IsHeld (length base.vectors) (IsInRows (length base.vectors) pulled) extreme c → HasWidth (length base.vectors) c
+  held_width : (extreme : List Vector) → Each (HasWidth (length base.vectors)) extreme → (c : Vector) → IsListedOrBoxMember (length base.vectors) (IsInRows (length base.vectors) pulled) extreme c → HasWidth (length base.vectors) c
   held_width extreme l c (inl h) = Each-contains (HasWidth (length base.vectors)) extreme c l h
   held_width extreme l c (inr h) = h.member.0
 
-  crowd_back : (limit : ℕ) (extreme : List Vector) → AreGenerators (length base.vectors) pulled (entry_forms base) extreme → MoreThan limit (IsHeld (length base.vectors) (IsInRows (length base.vectors) pulled) extreme) → IsCrowd s limit
+  crowd_back : (limit : ℕ) (extreme : List Vector) → AreGenerators (length base.vectors) pulled (entry_forms base) extreme → MoreThan limit (IsListedOrBoxMember (length base.vectors) (IsInRows (length base.vectors) pulled) extreme) → IsCrowd s limit
   crowd_back limit extreme g m =
       let l = generators_wide extreme g in
-      let held : MoreThan limit (IsHeld base.width (IsMember s) (map (vector_at base) extreme)) = record {
+      let held : MoreThan limit (IsListedOrBoxMember base.width (IsMember s) (map (vector_at base) extreme)) = record {
         witnesses = map (vector_at base) m.witnesses;
-        different = different_mapped (vector_at base) (HasWidth (length base.vectors)) (sum.at_same base.width base.vectors b.widths b.independent) m.witnesses (each_map (IsHeld (length base.vectors) (IsInRows (length base.vectors) pulled) extreme) (HasWidth (length base.vectors)) m.witnesses (λ c h. held_width extreme l c h) m.only) m.different;
-        only = each_of_map (vector_at base) (IsHeld base.width (IsMember s) (map (vector_at base) extreme)) m.witnesses (each_map (IsHeld (length base.vectors) (IsInRows (length base.vectors) pulled) extreme) (λ c. IsHeld base.width (IsMember s) (map (vector_at base) extreme) (vector_at base c)) m.witnesses (λ c h. held_back extreme l c h) m.only);
+        different = different_mapped (vector_at base) (HasWidth (length base.vectors)) (sum.at_same base.width base.vectors b.widths b.independent) m.witnesses (each_map (IsListedOrBoxMember (length base.vectors) (IsInRows (length base.vectors) pulled) extreme) (HasWidth (length base.vectors)) m.witnesses (λ c h. held_width extreme l c h) m.only) m.different;
+        only = each_of_map (vector_at base) (IsListedOrBoxMember base.width (IsMember s) (map (vector_at base) extreme)) m.witnesses (each_map (IsListedOrBoxMember (length base.vectors) (IsInRows (length base.vectors) pulled) extreme) (λ c. IsListedOrBoxMember base.width (IsMember s) (map (vector_at base) extreme) (vector_at base c)) m.witnesses (λ c h. held_back extreme l c h) m.only);
         more = (let e = length-map m.witnesses (vector_at base) in let n = m.more in omega (arith, e, n));
       } in
       record {
         positive = positive;
         extreme = map (vector_at base) extreme;
         are_extreme = extreme_mapped extreme g;
-        more = subst (λ (n : ℕ). MoreThan limit (IsHeld n (IsMember s) (map (vector_at base) extreme))) fr.is_base.width held;
+        more = subst (λ (n : ℕ). MoreThan limit (IsListedOrBoxMember n (IsMember s) (map (vector_at base) extreme))) fr.is_base.width held;
       }
 
   -- ---- refusals
@@ -150,11 +154,11 @@ module _ (s : System) (base : Base) (pulled : List Vector) (is : IsSystem s) (fr
       (λ p. inr (passed, passed_where (ArePlacings (length base.vectors) p.0) (AreToldOf s) (told_back p.0 p.1) 0 passed a c false p.2))
       h
 
-  pub primal_refused : (limit : ℕ) (a c : Watched) (e : Work) (result : SolveRefusal) → IsPrimalRefusal (length base.vectors) pulled (entry_forms base) limit 0 a c e → IsSameRefusal e result → IsSolveRefusal s limit a c result
-  primal_refused limit a c (work.Range number) result h i = subst (IsSolveRefusal s limit a c) (sym i) (some_back h.0 a c h.1)
-  primal_refused limit a c work.TooMany result h i = subst (IsSolveRefusal s limit a c) (sym i) (crowd_back limit h.0 h.1 h.3, all_told h.0 a c h.1 h.2)
-  primal_refused limit a c (work.Stopped stage) result h i = subst (IsSolveRefusal s limit a c) (sym i) (stopped_where (ArePlacings (length base.vectors) h.0) (AreToldOf s) (told_back h.0 h.1) 0 stage a c h.2)
-  primal_refused limit a c work.NoMemory result h i = subst (IsSolveRefusal s limit a c) (sym i) (some_back h.0 a c h.1)
+  pub primal_refused : (limit : ℕ) (a c : Watched) (e : Work) (result : SolveRefusal) → IsPrimalRefusal (length base.vectors) pulled (entry_forms base) limit 0 a c e → WhereRange (IsPrimalReachAbove s half) e → IsSameRefusal e result → IsSolveRefusal s limit a c result
+  primal_refused limit a c (work.Range number) result h r i = subst (IsSolveRefusal s limit a c) (sym i) (r, some_back h.0 a c h.1)
+  primal_refused limit a c work.TooMany result h r i = subst (IsSolveRefusal s limit a c) (sym i) (crowd_back limit h.0 h.1 h.3, all_told h.0 a c h.1 h.2)
+  primal_refused limit a c (work.Stopped stage) result h r i = subst (IsSolveRefusal s limit a c) (sym i) (stopped_where (ArePlacings (length base.vectors) h.0) (AreToldOf s) (told_back h.0 h.1) 0 stage a c h.2)
+  primal_refused limit a c work.NoMemory result h r i = subst (IsSolveRefusal s limit a c) (sym i) (some_back h.0 a c h.1)
 
 -- all told is some told
 pub some_of_all : (s : System) (a c : Watched) → HasPassedAll (AreToldOf s) 0 a c → WasToldSome s a c
@@ -182,11 +186,17 @@ module _ (s : System) (base : Base) (pulled : List Vector) (is : IsSystem s) (fr
   pub order_at : AreSeparating (length places) order
   order_at = subst (λ (n : ℕ). AreSeparating n order) same_width (subst (AreSeparating (length base.vectors)) (sym eo) (entries_separate base (frame_base s base pulled fr)))
 
-  pt : IsPointed (length base.vectors) pulled
+  pub pt : IsPointed (length base.vectors) pulled
   pt = pointed_of_simplex (length base.vectors) pulled rays places sx
 
   lists_at : (list extreme : List Vector) (simplices : List (List ℕ)) (forms : List (List Vector)) → ArePrimalLists (length places) pulled order list extreme simplices forms → ArePrimalLists (length base.vectors) pulled (entry_forms base) list extreme simplices forms
   lists_at list extreme simplices forms p = subst (λ (n : ℕ). ArePrimalLists n pulled (entry_forms base) list extreme simplices forms) (sym same_width) (subst (λ (o : List Vector). ArePrimalLists (length places) pulled o list extreme simplices forms) eo p)
+
+  pub list_irreducible_at : (list extreme : List Vector) (simplices : List (List ℕ)) (forms : List (List Vector)) → ArePrimalLists (length places) pulled order list extreme simplices forms → Each (IsIrreducible (IsInRows (length base.vectors) pulled)) list
+  list_irreducible_at list extreme simplices forms p = (lists_at list extreme simplices forms p).elements.only
+
+  pub extreme_at : (list extreme : List Vector) (simplices : List (List ℕ)) (forms : List (List Vector)) → ArePrimalLists (length places) pulled order list extreme simplices forms → Each (IsExtreme (IsInRows (length base.vectors) pulled)) extreme
+  extreme_at list extreme simplices forms p = (lists_at list extreme simplices forms p).generators.only
 
   pub list_wide_at : (list extreme : List Vector) (simplices : List (List ℕ)) (forms : List (List Vector)) → ArePrimalLists (length places) pulled order list extreme simplices forms → Each (HasWidth (length base.vectors)) list
   list_wide_at list extreme simplices forms p = each_map (IsIrreducible (IsInRows (length base.vectors) pulled)) (HasWidth (length base.vectors)) list (λ c i. i.member.0) (lists_at list extreme simplices forms p).elements.only
@@ -204,5 +214,5 @@ module _ (s : System) (base : Base) (pulled : List Vector) (is : IsSystem s) (fr
     pub some_told_at : (list extreme : List Vector) (simplices : List (List ℕ)) (forms : List (List Vector)) (a c : Watched) → ArePrimalLists (length places) pulled order list extreme simplices forms × HasPassedAll (ArePlacings (length places) extreme) 0 a c → WasToldSome s a c
     some_told_at list extreme simplices forms a c h = some_of_all s a c (told_at list extreme simplices forms a c h)
 
-    pub refused_at : (limit : ℕ) (a c : Watched) (e : Work) (result : SolveRefusal) → IsPrimalRefusal (length places) pulled order limit 0 a c e → IsSameRefusal e result → IsSolveRefusal s limit a c result
-    refused_at limit a c e result h i = primal_refused s base pulled is fr no_level no_grading pt limit a c e result (subst (λ (n : ℕ). IsPrimalRefusal n pulled (entry_forms base) limit 0 a c e) (sym same_width) (subst (λ (o : List Vector). IsPrimalRefusal (length places) pulled o limit 0 a c e) eo h)) i
+    pub refused_at : (limit : ℕ) (a c : Watched) (e : Work) (result : SolveRefusal) → IsPrimalRefusal (length places) pulled order limit 0 a c e → WhereRange (IsPrimalReachAbove s half) e → IsSameRefusal e result → IsSolveRefusal s limit a c result
+    refused_at limit a c e result h r i = primal_refused s base pulled is fr no_level no_grading pt limit a c e result (subst (λ (n : ℕ). IsPrimalRefusal n pulled (entry_forms base) limit 0 a c e) (sym same_width) (subst (λ (o : List Vector). IsPrimalRefusal (length places) pulled o limit 0 a c e) eo h)) r i

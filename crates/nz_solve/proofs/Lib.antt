@@ -1,5 +1,5 @@
-mod LatticeLemmas
-mod FrameLemmas
-mod LineLemmas
+mod EntryLemmas
+mod RangeLemmas
+mod LineRefusals
 mod AnswerLemmas
 mod OutcomeLemmas

@@ -1,17 +1,18 @@
 -- What a solved system answers.
-use Rattle.std.specs.Prelude.{◌≡◌, ◌⊎◌, ◌≤◌, ℕ, Bool, true, false, List, [], length, Option, Some, None}
+use Rattle.std.specs.Prelude.{◌≡◌, ◌⊎◌, ◌≤◌, ◌^◌, ℕ, ℤ, pos, Bool, true, false, List, [], length, Option, Some, None}
 use Rattle.nz_spec.specs.Vectors.{Vector}
 use Rattle.nz_spec.specs.Order.{MoreThan}
 use Rattle.nz_spec.specs.Systems.{System, IsMember}
 use Rattle.nz_spec.specs.Monoids.{IsPositive, IsLeastLine}
 use Rattle.nz_spec.specs.Elements.{IsHilbertBasis, AreExtreme, AreRays, IsSupportDescription, IsCoverOf}
 use Rattle.nz_spec.specs.Stages.{ArePrimalStages, AreTold}
-use Rattle.nz_edge.specs.Watching.{Pair}
-use Rattle.nz_edge.specs.Telling.{Watched, WasTold, HasPassed, HasPassedAll, HasStopped}
+use Rattle.nz_spec.specs.Boxes.{IsListedOrBoxMember}
+use Rattle.nz_watch.specs.Watching.{Pair}
+use Rattle.nz_watch.specs.Telling.{Watched, WasTold, HasPassed, HasPassedAll, HasStopped}
+use Rattle.nz_measures.specs.Reaches.{IsPrimalReachAbove}
 use Rattle.nz_input.specs.declared.kind.Mode.TheVariants.{Primal}
 use Rattle.nz_system.specs.Meaning.{SystemData}
 use Rattle.nz_blocks.specs.Outcomes.{OutcomeData}
-use Rattle.nz_primal.specs.Lists.{IsHeld}
 use Rattle.nz_solve.specs.declared.refusal.SolveRefusal.{SolveRefusal}
 use Rattle.nz_solve.specs.declared.refusal.SolveRefusal.TheVariants.{Line, Range, TooMany, Stopped, NoMemory}
 
@@ -62,7 +63,7 @@ pub record IsCrowd (s : System) (limit : ℕ) : Type 0 where
   pub positive : IsPositive (IsMember s)
   pub extreme : List Vector
   pub are_extreme : AreExtreme s extreme
-  pub more : MoreThan limit (IsHeld s.width (IsMember s) extreme)
+  pub more : MoreThan limit (IsListedOrBoxMember s.width (IsMember s) extreme)
 
 -- the irreducible elements are no more than the limit
 pub record IsWithin (s : System) (limit : ℕ) : Type 0 where
@@ -70,10 +71,14 @@ pub record IsWithin (s : System) (limit : ℕ) : Type 0 where
   pub basis : IsHilbertBasis s list
   pub size : length list ≤ limit
 
--- why there is no outcome, and what the watch was told
+-- the size up to which two numbers of a run can be multiplied, and two such products added
+abbrev pub half : ℤ
+half = pos (2 ^ 62)
+
+-- why there is no outcome, and what the watch was told: Range only where a number that the run is known to form is above the half
 abbrev pub IsSolveRefusal : System → (limit : ℕ) → (before now : Watched) → SolveRefusal → Type 0
 IsSolveRefusal s limit before now (Line v) = IsLeastLine (IsMember s) v × WasTold before now [] false
-IsSolveRefusal s limit before now Range = WasToldSome s before now
+IsSolveRefusal s limit before now Range = IsPrimalReachAbove s half × WasToldSome s before now
 IsSolveRefusal s limit before now TooMany = IsCrowd s limit × HasPassedAll (AreToldOf s) 0 before now
 IsSolveRefusal s limit before now (Stopped stage) = HasStopped (AreToldOf s) 0 stage before now
 IsSolveRefusal s limit before now NoMemory = WasToldSome s before now

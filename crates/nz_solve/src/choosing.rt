@@ -1,5 +1,6 @@
 // The outcome of a system: of its elements what the goals ask.
-ghost use Rattle.std.specs.Prelude.{◌≡◌, IfOk};
+ghost use Rattle.std.specs.Prelude.{◌≡◌, ◌^◌, pos, IfOk, IfErr};
+ghost use Rattle.nz_pointed.specs.Pointed.{IsTooLarge};
 ghost use Rattle.std.specs.List.{AllByRecursion as Each};
 ghost use Rattle.nz_spec.specs.Vectors.{HasWidth};
 ghost use Rattle.nz_spec.specs.Forms.{IsDescription};
@@ -7,7 +8,6 @@ ghost use Rattle.nz_system.specs.Meaning.{there};
 ghost use Rattle.nz_solve.specs.Solutions.{IsPlain, IsSolution, AreWhere};
 ghost use Rattle.nz_solve.specs.Parts.{AreElements};
 
-use crate::lists::copied;
 use crate::returning::Elements;
 use nz_blocks::Outcome;
 use nz_facets::describe;
@@ -23,7 +23,8 @@ pub(crate) fn outcome(
 ) -> Result<Outcome, Num>
     requires plain { IsPlain system.now }
     requires elements { AreElements system.now.system elements.list elements.extreme elements.simplices }
-    ensures { IfOk result (IsSolution system.now) }
+    ensures solution { IfOk result (IsSolution system.now) }
+    ensures cause { IfErr result (λ e. e ≡ Num.Range → IsTooLarge (pos (2 ^ 62)) system.now.system.width elements.extreme) }
 {
     system.kept();
     let goals = system.goals;
@@ -66,7 +67,8 @@ fn description_of<T: Scalar>(
     gens: &Rows<T>,
 ) -> Result<Described<T>, Num>
     requires { Each (HasWidth width) gens.now }
-    ensures { IfOk result (λ d. AreWhere wanted (IsDescription width gens.now) d.support d.equations) }
+    ensures described { IfOk result (λ d. AreWhere wanted (IsDescription width gens.now) d.support d.equations) }
+    ensures cause { IfErr result (λ e. e ≡ Num.Range → IsTooLarge T.HALF width gens.now) }
 {
     if !wanted {
         return Ok(Described {
@@ -93,7 +95,7 @@ fn copied_where<T: Scalar>(
     if !wanted {
         return Ok(None);
     }
-    match copied(alloc, rows) {
+    match rows.try_copy() {
         Ok(rows) => Ok(Some(rows)),
         Err(refusal) => Err(refusal),
     }

@@ -8,7 +8,7 @@ pub enum SolveRefusal {
     /// The members have a line: this vector and its opposite are members. It is no multiple of a
     /// shorter member, and its first nonzero entry is positive.
     Line(Ints),
-    /// A number is no value of the type. Which numbers make it so is not stated.
+    /// A number is no value of the type: one that the run is known to form is above `HALF`.
     Range,
     /// More vectors would have to be held than the limit allows.
     TooMany,
@@ -19,7 +19,7 @@ pub enum SolveRefusal {
 
 /// The refusal of a call that only reckons.
 pub(crate) fn unreckoned(refusal: Num) -> SolveRefusal
-    ensures { IsReckonRefusal result }
+    ensures { IsReckonRefusal refusal result }
 {
     match refusal {
         Num::Range => SolveRefusal::Range,

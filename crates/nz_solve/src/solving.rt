@@ -1,20 +1,20 @@
 ghost use Rattle.std.specs.Prelude.{◌≡◌, length, IfOk, MatchResult};
 ghost use Rattle.nz_pointed.specs.Pointed.{IsSimplexOf};
-ghost use Rattle.nz_edge.specs.Telling.{HasPassedAll};
+ghost use Rattle.nz_watch.specs.Telling.{HasPassedAll};
+ghost use Rattle.nz_measures.specs.Sweeps.{IsSwept};
 ghost use Rattle.nz_solve.specs.Solutions.{IsPlain, IsSolution, AreToldOf, IsSolveRefusal, IsWithin};
-ghost use Rattle.nz_solve.specs.Parts.{IsFrame};
+ghost use Rattle.nz_frame.specs.Frames.{IsFrame};
 
 use crate::choosing::outcome;
-use crate::forms::entry_forms;
-use crate::frames::{Frame, frame_of};
 use crate::lines::line_refusal;
 use crate::refusal::{SolveRefusal, unfinished, unreckoned};
 use crate::returning::elements_of;
 use nz_blocks::Outcome;
-use nz_edge::Watch;
+use nz_frame::{Frame, entry_forms, frame_of};
 use nz_pointed::{Pointed, Simplex, start};
 use nz_primal::primal;
 use nz_system::System;
+use nz_watch::Watch;
 use std::alloc::Global;
 
 /// Solves a system without a level, a grading or asked vectors by the primal algorithm: its irreducible
@@ -22,8 +22,10 @@ use std::alloc::Global;
 /// them, each where its goal is on.
 ///
 /// The watch is told the stages of placing the extreme generators, and nothing where there is a line.
-/// `limit` is the most irreducible elements, and the most points of one simplex. Which numbers make it Range is not stated. Only Stopped
-/// comes after a stop of the watch.
+/// `limit` is the most irreducible elements, and the most points of one simplex. Range comes only where a
+/// number that the run is known to form is above `HALF`: one of the sweep of the lattice, a modulus, or the
+/// measure of a vector, a form, or a form at a vector, in the coordinates of the file, of the lattice, or of
+/// the cone. Only Stopped comes after a stop of the watch.
 pub fn solve(
     alloc: Global,
     system: &System,
@@ -31,7 +33,7 @@ pub fn solve(
     watch: &mut Box<dyn Watch>,
 ) -> Result<Outcome, SolveRefusal>
     requires { IsPlain system.now }
-    ensures outcome { MatchResult result (λ o. IsSolution system.now o × HasPassedAll (AreToldOf system.now.system) 0 (record { told = told watch.old; patience = patience watch.old; stops = stops watch.old }) (record { told = told watch.new; patience = patience watch.new; stops = stops watch.new })) (λ e. IsSolveRefusal system.now.system limit (record { told = told watch.old; patience = patience watch.old; stops = stops watch.old }) (record { told = told watch.new; patience = patience watch.new; stops = stops watch.new }) e) }
+    ensures outcome { MatchResult result (λ o. IsSolution system.now o × HasPassedAll (AreToldOf system.now.system) 0 (seen watch.old) (seen watch.new)) (λ e. IsSolveRefusal system.now.system limit (seen watch.old) (seen watch.new) e) }
     ensures within { IfOk result (λ _. IsWithin system.now.system limit) }
 {
     system.kept();
@@ -60,8 +62,9 @@ fn solved(
 ) -> Result<Outcome, SolveRefusal>
     requires plain { IsPlain system.now }
     requires frame { IsFrame system.now.system frame.now.base frame.now.rows }
+    requires swept { IsSwept system.now.system frame.now.base }
     requires simplex { IsSimplexOf (length frame.now.base.vectors) frame.now.rows simplex.now.places simplex.now.rays }
-    ensures outcome { MatchResult result (λ o. IsSolution system.now o × HasPassedAll (AreToldOf system.now.system) 0 (record { told = told watch.old; patience = patience watch.old; stops = stops watch.old }) (record { told = told watch.new; patience = patience watch.new; stops = stops watch.new })) (λ e. IsSolveRefusal system.now.system limit (record { told = told watch.old; patience = patience watch.old; stops = stops watch.old }) (record { told = told watch.new; patience = patience watch.new; stops = stops watch.new }) e) }
+    ensures outcome { MatchResult result (λ o. IsSolution system.now o × HasPassedAll (AreToldOf system.now.system) 0 (seen watch.old) (seen watch.new)) (λ e. IsSolveRefusal system.now.system limit (seen watch.old) (seen watch.new) e) }
     ensures within { IfOk result (λ _. IsWithin system.now.system limit) }
 {
     system.kept();

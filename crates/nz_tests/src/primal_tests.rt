@@ -4,10 +4,10 @@ ghost use Rattle.std.specs.List.{AllByRecursion as Each};
 ghost use Rattle.nz_spec.specs.Vectors.{HasWidth};
 ghost use Rattle.nz_pointed.specs.Pointed.{IsSimplexOf};
 
-use nz_edge::{MemWatch, Watch};
 use nz_pointed::{Pointed, Simplex, start};
 use nz_primal::{PrimalLists, primal};
 use nz_vec::{Row, Rows, Scalar, Work};
+use nz_watch::{MemWatch, Watch};
 use std::alloc::Global;
 use std::process::Abort;
 use std::test::Fail;

@@ -1,9 +1,10 @@
 //! Runs over files, a console and a watch in memory: the worked files, and each status once.
 ghost use Rattle.std.specs.Prelude.{◌≤◌, IfOk, IfSome, length};
 
-use nz_edge::{MemFolder, MemSink, MemWatch, Watch};
+use nz_edge::{MemFolder, MemSink};
 use nz_run::run;
 use nz_vec::Bytes;
+use nz_watch::{MemWatch, Watch};
 use std::alloc::Global;
 use std::test::Fail;
 

@@ -3,11 +3,11 @@ ghost use Rattle.std.specs.Prelude.{IsTrue, IfSome, ◌≤◌};
 ghost use Rattle.nz_solve.specs.Solutions.{IsPlain};
 
 use nz_blocks::blocks;
-use nz_edge::{MemWatch, Watch};
 use nz_input::{Goals, Mode, read};
 use nz_solve::{SolveRefusal, solve};
 use nz_system::{System, system_of};
 use nz_vec::Ints;
+use nz_watch::{MemWatch, Watch};
 use std::alloc::Global;
 use std::test::Fail;
 

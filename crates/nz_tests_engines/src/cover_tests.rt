@@ -5,9 +5,9 @@ ghost use Rattle.nz_spec.specs.Vectors.{HasWidth};
 ghost use Rattle.nz_cover.specs.Placing.{ArePlaceable};
 
 use nz_cover::{Cover, place};
-use nz_edge::{MemWatch, Watch};
 use nz_pointed::{Pointed, start};
 use nz_vec::{PlaceLists, Places, Row, Rows, Scalar, Work};
+use nz_watch::{MemWatch, Watch};
 use std::alloc::Global;
 use std::process::Abort;
 use std::test::Fail;

@@ -5,9 +5,9 @@ ghost use Rattle.nz_spec.specs.Vectors.{HasWidth};
 ghost use Rattle.nz_pointed.specs.Pointed.{IsSimplexOf};
 
 use nz_dual::dual;
-use nz_edge::{MemWatch, Watch};
 use nz_pointed::{Pointed, Simplex, start};
 use nz_vec::{Row, Rows, Scalar, Work};
+use nz_watch::{MemWatch, Watch};
 use std::alloc::Global;
 use std::process::Abort;
 use std::test::Fail;

@@ -1,9 +1,9 @@
 //! The levels of a list, at both widths.
 ghost use Rattle.std.specs.Prelude.{◌≡◌, IfOk, length};
 ghost use Rattle.std.specs.List.{AllByRecursion as Each};
-ghost use Rattle.nz_module.specs.Levels.{HasEntry};
+ghost use Rattle.nz_degree.specs.Levels.{HasEntry};
 
-use nz_module::split;
+use nz_degree::split;
 use nz_vec::{Row, Rows, Scalar};
 use std::alloc::Global;
 use std::test::Fail;

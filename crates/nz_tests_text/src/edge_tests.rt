@@ -1,10 +1,10 @@
 ghost use Rattle.std.specs.Prelude.{◌≤◌, IfOk, length};
 
 use nz_edge::{
-    DiskFolder, Folder, LinesWatch, Load, MemFolder, MemSink, MemWatch, Sink, StopWatch, Stored,
-    Watch, put_all,
+    DiskFolder, Folder, LinesWatch, Load, MemFolder, MemSink, Sink, StopWatch, Stored, put_all,
 };
 use nz_vec::Bytes;
+use nz_watch::{MemWatch, Watch};
 use std::alloc::Global;
 use std::fs;
 use std::test::Fail;

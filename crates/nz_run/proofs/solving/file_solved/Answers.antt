@@ -1,5 +1,5 @@
 use Rattle.std.proofs.Common.{inl, rules}
-use Rattle.nz_edge.proofs.TellingLemmas.{none_told}
+use Rattle.nz_watch.proofs.TellingLemmas.{none_told}
 use Rattle.nz_run.proofs.solving.file_solved.Goals as goal
 
 pub meant-requires-clause-meaning : goal.meant-requires-clause-meaning

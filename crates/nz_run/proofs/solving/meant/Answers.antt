@@ -1,6 +1,6 @@
 use Rattle.std.proofs.Common.{sym, subst}
 use Rattle.nz_solve.specs.Solutions.{IsPlain}
-use Rattle.nz_edge.proofs.TellingLemmas.{none_told}
+use Rattle.nz_watch.proofs.TellingLemmas.{none_told}
 use Rattle.nz_run.proofs.BuiltSystems.{ready_plain}
 use Rattle.nz_run.proofs.Answering.{file_solved, file_refused}
 use Rattle.nz_run.proofs.solving.meant.Goals as goal

@@ -2,7 +2,7 @@ use Rattle.std.proofs.Common.{[], ◌∙◌, sym, subst}
 use Rattle.nz_vec.specs.Texts.{Text}
 use Rattle.nz_edge.specs.Answers.{OnTold, LoadGives}
 use Rattle.nz_edge.specs.declared.folder.Load.TheVariants as load
-use Rattle.nz_edge.proofs.TellingLemmas.{none_told}
+use Rattle.nz_watch.proofs.TellingLemmas.{none_told}
 use Rattle.nz_run.proofs.Composing.{loaded_and_stored}
 use Rattle.nz_run.proofs.top.run_project.Goals as goal
 

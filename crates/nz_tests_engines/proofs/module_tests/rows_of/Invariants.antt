@@ -1,5 +1,5 @@
 use Rattle.std.specs.List.{AllByRecursion as Each}
-use Rattle.nz_module.specs.Levels.{HasEntry}
+use Rattle.nz_degree.specs.Levels.{HasEntry}
 use Rattle.nz_tests_engines.proofs.module_tests.rows_of.Given as goal
 
 abbrev pub invariant-loop-entry : goal.invariant-loop-entry

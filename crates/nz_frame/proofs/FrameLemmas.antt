@@ -1,0 +1,90 @@
+-- The members of a system in a frame of it; the entries of a vector as forms on its coordinates.
+use Rattle.std.proofs.Common.{◌≡◌, ℕ, zero, suc, List, [], ◌∷◌, length, map, Option, Some, None, ℤ, pos, refl, sym, ap₂, ◌∙◌, subst, arith}
+use Rattle.std.proofs.lemmas.List.{length-map}
+use Rattle.std.specs.List.{AllByRecursion as Each}
+use Rattle.nz_spec.specs.Vectors.{Vector, dot, values_at, unit_vectors, combination, HasWidth}
+use Rattle.nz_spec.specs.Systems.{System, IsSystem, IsMember}
+use Rattle.nz_spec.specs.Monoids.{IsPositive}
+use Rattle.nz_spec.specs.Forms.{IsEquationAt, IsSupportForm}
+use Rattle.nz_spec.specs.Constraints.{AreGenEquations, AreGenSupport, AreEquationsOf, AreRowsOf}
+use Rattle.nz_spec.proofs.SumLaws.{dot-combination, length-combination}
+use Rattle.nz_spec.proofs.VectorLaws.{zero-dot}
+use Rattle.nz_spec.proofs.EquationLaws.{dot_comm}
+use Rattle.std.proofs.Math.IntN.{zero-*ℤ}
+use Rattle.nz_linear.specs.Cones.{IsInRows}
+use Rattle.nz_linear.specs.Extreme.{IsPointed}
+use Rattle.nz_linear.specs.Coordinates.{AreCoordinates, in_coordinates}
+use Rattle.nz_linear.proofs.Ring.{sums, one-mul}
+use Rattle.nz_linear.proofs.Lists.{each_map, each_append, zip_to_right}
+use Rattle.nz_linear.proofs.Coordinates.{positive_forth}
+use Rattle.nz_linear.proofs.Pointed.{positive_of_pointed}
+use Rattle.nz_linear.proofs.SystemRays.{system_coordinates}
+use Rattle.nz_sweep.specs.Bases.{Base, IsBase}
+use Rattle.nz_sweep.proofs.BaseLemmas.{units_are_base}
+use Rattle.nz_frame.specs.Frames.{IsFrame, entry_forms, vector_at}
+use Rattle.nz_frame.proofs.LatticeLemmas.{base_of}
+
+-- ---- a frame
+pub pulled_wide : (vs fs : List Vector) → Each (HasWidth (length vs)) (map (λ h. in_coordinates vs h) fs)
+pulled_wide vs [] = tt
+pulled_wide vs (f ∷ fs) = (length-map vs (λ v. dot f v), pulled_wide vs fs)
+
+pub frame_wide : (s : System) (base : Base) (pulled : List Vector) → IsFrame s base pulled → Each (HasWidth (length base.vectors)) pulled
+frame_wide s base pulled fr = subst (Each (HasWidth (length base.vectors))) (sym fr.there) (pulled_wide base.vectors fr.rows)
+
+pub frame_base : (s : System) (base : Base) (pulled : List Vector) → IsFrame s base pulled → IsBase base
+frame_base s base pulled fr = base_of s.width _ base fr.is_base
+
+-- the members of the system are, in coordinates, the whole vectors of the cone of the rows there
+pub frame_coordinates : (s : System) (base : Base) (pulled : List Vector) → IsSystem s → IsFrame s base pulled → AreCoordinates base.width base.vectors (IsMember s) (IsInRows (length base.vectors) pulled)
+frame_coordinates s base pulled is fr =
+    let b = fr.is_base in
+    subst (λ (n : ℕ). AreCoordinates n base.vectors (IsMember s) (IsInRows (length base.vectors) pulled)) (sym b.width)
+    (subst (λ (rs : List Vector). AreCoordinates s.width base.vectors (IsMember s) (IsInRows (length base.vectors) rs)) (sym fr.there)
+    (system_coordinates s fr.equations fr.rows base.vectors is fr.are_equations fr.are_rows b.widths b.independent b.same))
+
+-- where the rows there vanish together only at 0 there is no line
+pub frame_positive : (s : System) (base : Base) (pulled : List Vector) → IsSystem s → IsFrame s base pulled → IsPointed (length base.vectors) pulled → IsPositive (IsMember s)
+frame_positive s base pulled is fr pt =
+    positive_forth base.width base.vectors (IsMember s) (IsInRows (length base.vectors) pulled) (frame_coordinates s base pulled is fr)
+    (positive_of_pointed (length base.vectors) pulled (IsInRows (length base.vectors) pulled) pt (λ x m. m))
+
+-- ---- the unit forms have the entries as values
+shifted : (us : List Vector) (a : ℤ) (x : Vector) → map (λ u. dot u (a ∷ x)) (map (λ u. pos 0 ∷ u) us) ≡ map (λ u. dot u x) us
+shifted [] a x = refl
+shifted (u ∷ us) a x = ap₂ (λ b y. b ∷ y) (let e = zero-*ℤ a in omega (arith, sums, e)) (shifted us a x)
+
+pub unit_values : (w : ℕ) (x : Vector) → HasWidth w x → values_at (unit_vectors w) x ≡ x
+unit_values zero [] l = refl
+unit_values zero (a ∷ x) l = absurd (let b : ⊥ = omega (arith, l) in b)
+unit_values (suc w) [] l = absurd (let b : ⊥ = omega (arith, l) in b)
+unit_values (suc w) (a ∷ x) l = ap₂ (λ b y. b ∷ y) (let e = zero-dot w x in let o = one-mul a in omega (arith, sums, e, o)) (shifted (unit_vectors w) a x ∙ unit_values w x (omega (arith, l)))
+
+pulled_values : (w : ℕ) (vs fs : List Vector) (c : Vector) → Each (HasWidth w) vs → values_at (map (λ h. in_coordinates vs h) fs) c ≡ values_at fs (combination w c vs)
+pulled_values w vs [] c l = refl
+pulled_values w vs (f ∷ fs) c l = ap₂ (λ b y. b ∷ y) (dot_comm (in_coordinates vs f) c ∙ sym (dot-combination f w c vs l)) (pulled_values w vs fs c l)
+
+-- the values of the entry forms are the entries of the vector
+pub entry_values : (base : Base) (c : Vector) → IsBase base → values_at (entry_forms base) c ≡ vector_at base c
+entry_values base c is = pulled_values base.width base.vectors (unit_vectors base.width) c is.widths ∙ unit_values base.width (combination base.width c base.vectors) (length-combination base.width c base.vectors is.widths)
+
+-- ---- widths
+gen_equations_wide : (w : ℕ) (gens : Option (List Vector)) (fs : List Vector) → AreGenEquations w gens fs → Each (HasWidth w) fs
+gen_equations_wide w None fs e = subst (Each (HasWidth w)) (sym e) tt
+gen_equations_wide w (Some gens) fs e = zip_to_right (IsEquationAt w gens) (HasWidth w) e.columns fs (λ c f k. k.width) e.each
+
+gen_support_wide : (w : ℕ) (gens : Option (List Vector)) (fs : List Vector) → AreGenSupport w gens fs → Each (HasWidth w) fs
+gen_support_wide w None fs e = subst (Each (HasWidth w)) (sym e) tt
+gen_support_wide w (Some gens) fs e = each_map (IsSupportForm w gens) (HasWidth w) fs (λ f k. k.width) e.only
+
+pub equations_wide : (s : System) (fs : List Vector) → IsSystem s → AreEquationsOf s fs → Each (HasWidth s.width) fs
+equations_wide s fs is e = subst (Each (HasWidth s.width)) (sym e.whole) (each_append (HasWidth s.width) s.eq e.of_gens is.eq_width (gen_equations_wide s.width s.gens e.of_gens e.are_of_gens))
+
+pub rows_wide : (s : System) (fs : List Vector) → IsSystem s → AreRowsOf s fs → Each (HasWidth s.width) fs
+rows_wide s fs is e = subst (Each (HasWidth s.width)) (sym e.whole) (each_append (HasWidth s.width) s.ge e.of_gens is.ge_width (gen_support_wide s.width s.gens e.of_gens e.are_of_gens))
+
+pub wide_at : (w n : ℕ) (fs : List Vector) → n ≡ w → Each (HasWidth w) fs → Each (HasWidth n) fs
+wide_at w n fs e h = subst (λ (m : ℕ). Each (HasWidth m) fs) (sym e) h
+
+pub units_wide_at : (w n : ℕ) (us : List Vector) → n ≡ w → us ≡ unit_vectors w → Each (HasWidth n) us
+units_wide_at w n us e k = wide_at w n us e (units_are_base w us [] k).widths

@@ -1,0 +1,4 @@
+pub mod LatticeLemmas
+pub mod CutLemmas
+pub mod FrameLemmas
+pub mod LineLemmas

@@ -1,6 +1,0 @@
-use Rattle.std.proofs.Common.{◌≡◌, take}
-use Rattle.nz_spec.specs.Vectors.{scaled}
-use Rattle.nz_solve.proofs.lines.multiple.Given as goal
-
-abbrev pub invariant-loop-place : goal.invariant-loop-place
-invariant-loop-place g l = l.entries ≡ take l.place (scaled (g.T.Scalar.integer l.factor) l.row)
