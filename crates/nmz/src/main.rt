@@ -26,40 +26,39 @@ fn no_memory() -> ExitCode {
     ExitCode::from(Status::NoMemory.code())
 }
 
-// A run that prints nothing of its stages.
-fn run_quietly(rt: HostRuntime, words: &[String]) -> ExitCode {
-    let mut watch: Box<dyn Watch> = match Box::new(rt.alloc(), QuietWatch::new()) {
-        Ok(watch) => watch,
-        Err(_) => return no_memory(),
-    };
+// The run, over the disk and the terminal.
+fn run_watched(rt: HostRuntime, words: &[String], mut watch: Box<dyn Watch>) -> ExitCode {
     let mut folder = DiskFolder::new(rt);
     let mut console = StdSink::new(rt);
     let status = run(rt.alloc(), words, &mut folder, &mut console, &mut watch);
     ExitCode::from(status.code())
+}
+
+// A run that prints nothing of its stages.
+fn run_quietly(rt: HostRuntime, words: &[String]) -> ExitCode {
+    let watch: Box<dyn Watch> = match Box::new(rt.alloc(), QuietWatch::new()) {
+        Ok(watch) => watch,
+        Err(_) => return no_memory(),
+    };
+    run_watched(rt, words, watch)
 }
 
 // A run that prints its stages.
 fn run_printing(rt: HostRuntime, words: &[String]) -> ExitCode {
-    let mut watch: Box<dyn Watch> = match Box::new(rt.alloc(), LinesWatch::new(rt)) {
+    let watch: Box<dyn Watch> = match Box::new(rt.alloc(), LinesWatch::new(rt)) {
         Ok(watch) => watch,
         Err(_) => return no_memory(),
     };
-    let mut folder = DiskFolder::new(rt);
-    let mut console = StdSink::new(rt);
-    let status = run(rt.alloc(), words, &mut folder, &mut console, &mut watch);
-    ExitCode::from(status.code())
+    run_watched(rt, words, watch)
 }
 
 // A run that stops after so many stages.
 fn run_stopping(rt: HostRuntime, words: &[String], left: u64, lines: bool) -> ExitCode {
-    let mut watch: Box<dyn Watch> = match Box::new(rt.alloc(), StopWatch::new(rt, left, lines)) {
+    let watch: Box<dyn Watch> = match Box::new(rt.alloc(), StopWatch::new(rt, left, lines)) {
         Ok(watch) => watch,
         Err(_) => return no_memory(),
     };
-    let mut folder = DiskFolder::new(rt);
-    let mut console = StdSink::new(rt);
-    let status = run(rt.alloc(), words, &mut folder, &mut console, &mut watch);
-    ExitCode::from(status.code())
+    run_watched(rt, words, watch)
 }
 
 // Where memory is wanting, nothing is run, since a part of the words would mean another run.
