@@ -37,6 +37,7 @@ use Rattle.nz_primal.proofs.ElementLemmas.{brought_back, different_mapped}
 use Rattle.nz_primal.proofs.GeneratorLemmas.{pointed_of_simplex}
 use Rattle.nz_primal.proofs.RunLemmas.{passed_where, all_where, stopped_where}
 use Rattle.nz_solve.specs.declared.refusal.SolveRefusal.{SolveRefusal}
+use Rattle.nz_measures.specs.Crowds.{of_held}
 use Rattle.nz_measures.specs.Reaches.{IsPrimalReachAbove}
 use Rattle.nz_solve.specs.Solutions.{AreToldOf, WasToldSome, IsCrowd, IsWithin, half, IsSolveRefusal}
 use Rattle.nz_frame.specs.Frames.{IsFrame, entry_forms, vector_at}
@@ -140,12 +141,7 @@ module _ (s : System) (base : Base) (pulled : List Vector) (is : IsSystem s) (fr
         only = each_of_map (vector_at base) (IsListedOrBoxMember base.width (IsMember s) (map (vector_at base) extreme)) m.witnesses (each_map (IsListedOrBoxMember (length base.vectors) (IsInRows (length base.vectors) pulled) extreme) (λ c. IsListedOrBoxMember base.width (IsMember s) (map (vector_at base) extreme) (vector_at base c)) m.witnesses (λ c h. held_back extreme l c h) m.only);
         more = (let e = length-map m.witnesses (vector_at base) in let n = m.more in omega (arith, e, n));
       } in
-      record {
-        positive = positive;
-        extreme = map (vector_at base) extreme;
-        are_extreme = extreme_mapped extreme g;
-        more = subst (λ (n : ℕ). MoreThan limit (IsListedOrBoxMember n (IsMember s) (map (vector_at base) extreme))) fr.is_base.width held;
-      }
+      (positive, of_held positive (extreme_mapped extreme g) (subst (λ (n : ℕ). MoreThan limit (IsListedOrBoxMember n (IsMember s) (map (vector_at base) extreme))) fr.is_base.width held))
 
   -- ---- refusals
   some_back : (passed : ℕ) (a c : Watched) → HasPassedFirst (length base.vectors) pulled (entry_forms base) 0 passed a c → WasToldSome s a c

@@ -1,14 +1,13 @@
 -- What a solved system answers.
 use Rattle.std.specs.Prelude.{◌≡◌, ◌⊎◌, ◌≤◌, ◌^◌, ℕ, ℤ, pos, Bool, true, false, List, [], length, Option, Some, None}
 use Rattle.nz_spec.specs.Vectors.{Vector}
-use Rattle.nz_spec.specs.Order.{MoreThan}
 use Rattle.nz_spec.specs.Systems.{System, IsMember}
 use Rattle.nz_spec.specs.Monoids.{IsPositive, IsLeastLine}
-use Rattle.nz_spec.specs.Elements.{IsHilbertBasis, AreExtreme, AreRays, IsSupportDescription, IsCoverOf}
+use Rattle.nz_spec.specs.Elements.{IsHilbertBasis, AreRays, IsSupportDescription, IsCoverOf}
 use Rattle.nz_spec.specs.Stages.{ArePrimalStages, AreTold}
-use Rattle.nz_spec.specs.Boxes.{IsListedOrBoxMember}
 use Rattle.nz_watch.specs.Watching.{Pair}
 use Rattle.nz_watch.specs.Telling.{Watched, WasTold, HasPassed, HasPassedAll, HasStopped}
+use Rattle.nz_measures.specs.Crowds.{IsPrimalCrowdAbove}
 use Rattle.nz_measures.specs.Reaches.{IsPrimalReachAbove}
 use Rattle.nz_input.specs.declared.kind.Mode.TheVariants.{Primal}
 use Rattle.nz_system.specs.Meaning.{SystemData}
@@ -58,12 +57,9 @@ AreToldOf s pairs = AreTold ArePrimalStages s pairs
 abbrev pub WasToldSome : System → Watched → Watched → Type 0
 WasToldSome s before now = WasTold before now [] false ⊎ ((passed : ℕ) × HasPassed (AreToldOf s) 0 passed before now false)
 
--- there is no line, and more than the limit of vectors are extreme generators, or members in the box of independent ones
-pub record IsCrowd (s : System) (limit : ℕ) : Type 0 where
-  pub positive : IsPositive (IsMember s)
-  pub extreme : List Vector
-  pub are_extreme : AreExtreme s extreme
-  pub more : MoreThan limit (IsListedOrBoxMember s.width (IsMember s) extreme)
+-- there is no line, and the crowd of the primal algorithm is above the limit: more vectors are extreme generators, or members in the box of independent ones
+abbrev pub IsCrowd : System → ℕ → Type 0
+IsCrowd s limit = IsPositive (IsMember s) × IsPrimalCrowdAbove s limit
 
 -- the irreducible elements are no more than the limit
 pub record IsWithin (s : System) (limit : ℕ) : Type 0 where
