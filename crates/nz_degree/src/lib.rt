@@ -1,7 +1,7 @@
 //! Degrees and levels of elements: whether all degrees are positive, the elements of degree 1, the order by degree, and the elements of level 0 and of level 1.
-//! Its contract: `check` names the first element of degree 0 or less, `degree_one` and `split` pick in the order of the list, and `sort` leaves the same rows in order.
+//! Its contract: `check` names the first element of degree 0 or less, `degree_one`, `split` and `split_extreme` pick in the order of the list, and `sort` leaves the same rows in order.
 //! Below it stand the definitions, the lemmas on orders of `nz_order`, and the rows of `nz_vec`.
-//! The solvers put each list that they write into this order, refuse a grading that is not positive, and split the irreducible elements of a file with a level into its Hilbert basis and its module generators.
+//! `nz_solve` puts each list into this order, refuses a grading that is not positive, and splits the elements of a file with a level.
 //! Start with `specs/Degrees.antt`, then `check`; for the levels with `specs/Levels.antt`, then `split`.
 #![tactic(auto)]
 
@@ -15,7 +15,7 @@ mod sorting;
 
 pub use checking::check;
 pub use elements::degrees_are_elements;
-pub use levels::{Levels, levels_are_elements, split};
+pub use levels::{ExtremeLevels, Levels, levels_are_elements, split, split_extreme};
 pub use picking::degree_one;
 pub use positivity::Positivity;
 pub use sorting::sort;

@@ -12,4 +12,4 @@ pub mod RunLemmas
 pub mod RefusalLemmas
 pub mod InsertionLemmas
 pub mod WholeLemmas
-mod NumberCauses
+pub mod NumberCauses

@@ -1,6 +1,6 @@
 -- In the coordinates of a cone: each cause of the dual run is a named number above the bound, or stages that have more than the limit.
 use Rattle.std.proofs.Common.{◌≡◌, ◌⊎◌, inl, inr, ℕ, List, [], ◌∷◌, ◌++◌, length, map, take, get_or, ℤ, pos, ◌<ℤ◌, subst, ap, sym, refl, ◌∙◌, arith}
-use Rattle.std.proofs.lemmas.List.{length-map}
+use Rattle.std.proofs.lemmas.List.{length-map, length-append, append_assoc}
 use Rattle.std.proofs.Math.Seq.{take-append_seam}
 use Rattle.std.proofs.lemmas.List.Elements.{Contains-append_right}
 use Rattle.std.specs.List.{AllByRecursion as Each, AllZip, Contains}
@@ -8,17 +8,19 @@ use Rattle.nz_spec.specs.Vectors.{Vector, dot, HasWidth, IsPrimitive}
 use Rattle.nz_spec.specs.Covers.{vectors_at}
 use Rattle.nz_spec.specs.Monoids.{IsPositive, IsExtreme}
 use Rattle.nz_spec.specs.Order.{MoreThan}
-use Rattle.nz_spec.specs.Stages.{IsInStage, IsFreshRow, Separates}
+use Rattle.nz_spec.specs.Stages.{IsInStage, IsFreshRow, Separates, none, fresh, other}
 use Rattle.nz_spec.proofs.ListLaws.{Each-contains, contains_here, contains_there}
 use Rattle.nz_linear.specs.Cones.{IsInRows}
 use Rattle.nz_linear.specs.DualPairs.{Pair, IsDual}
 use Rattle.nz_linear.specs.Extreme.{IsPointed}
 use Rattle.nz_linear.specs.RayStep.{AreExtremeRays}
-use Rattle.nz_linear.proofs.Lists.{map_each}
+use Rattle.nz_linear.proofs.Lists.{each_map, each_append, each_left, each_right, map_each}
 use Rattle.nz_linear.proofs.RayStart.{dual_rays, dual_pointed}
 use Rattle.nz_linear.proofs.Splitting.{listed_is_extreme}
 use Rattle.nz_pointed.specs.Pointed.{paired, IsSimplexOf}
 use Rattle.nz_dual.specs.DualStages.{IsElement, IsReversedElement, IsNamed, IsTooLarge}
+use Rattle.nz_dual.specs.Refusals.{IsRowOf}
+use Rattle.nz_vec.specs.declared.answers.Work.TheVariants.{Range}
 use Rattle.nz_dual.specs.DualStages as named
 use Rattle.nz_dual.specs.FirstStage.{IsStartCandidate, IsStartVector, IsStartForm, IsStartTooLarge}
 use Rattle.nz_measures.specs.Stages.{AreFirstRays, IsLater, of_later, of_reversed, of_sum, held_first, first_sum}
@@ -123,3 +125,36 @@ simplex_rays w rows rays others places s n separates =
     each_of : {P : Vector → Type 0} (xs : List Vector) → ((x : Vector) → Contains xs x → P x) → Each P xs
     each_of [] f = tt
     each_of (x ∷ xs) f = (f x (contains_here x xs), each_of xs (λ y c. f y (contains_there x y xs c)))
+
+-- ---- the stage that is refused
+-- all rows are rows of the list
+separated_first : {Fresh : List Vector → Vector → Type 0} {earlier vs first others : List Vector} → Separates Fresh earlier vs first others → Each (Contains vs) first
+separated_first none = tt
+separated_first (fresh {vs = vs} {first = first} {v = v} n s) = (contains_here v vs, each_map (Contains vs) (Contains (v ∷ vs)) first (λ x c. contains_there v x vs c) (separated_first s))
+separated_first (other {vs = vs} {first = first} {v = v} n s) = each_map (Contains vs) (Contains (v ∷ vs)) first (λ x c. contains_there v x vs c) (separated_first s)
+
+separated_others : {Fresh : List Vector → Vector → Type 0} {earlier vs first others : List Vector} → Separates Fresh earlier vs first others → Each (Contains vs) others
+separated_others none = tt
+separated_others (fresh {vs = vs} {others = others} {v = v} n s) = each_map (Contains vs) (Contains (v ∷ vs)) others (λ x c. contains_there v x vs c) (separated_others s)
+separated_others (other {vs = vs} {others = others} {v = v} n s) = (contains_here v vs, each_map (Contains vs) (Contains (v ∷ vs)) others (λ x c. contains_there v x vs c) (separated_others s))
+
+-- a stage that is refused for a number forms one that is named
+pub stage_above : (h : ℤ) (limit w : ℕ) (rows order rays others : List Vector) (places : List ℕ) → IsPositive (IsInRows w rows) → IsSimplexOf w rows places rays → length places ≡ w → Separates (IsFreshRow (HasWidth w)) [] rows (vectors_at rows places) others
+    → (passed : ℕ) → IsRowOf h limit w (vectors_at rows places) rays others passed (Range 0) → HasDualAbove h w rows order
+stage_above h limit w rows order rays others places p s n separates passed refused =
+    let chosen : List Vector = vectors_at rows places in
+    let size : length chosen ≡ w = length-map places (λ i. get_or rows i []) ∙ n in
+    let ordered : List Vector = chosen ++ others in
+    let a : AreFirstRays (HasWidth w) w rows ordered rays = simplex_rays w rows rays others places s n separates in
+    let front : take w ordered ≡ chosen = ap (λ m. take m (chosen ++ others)) (sym size) ∙ take-append_seam chosen others in
+    let listed : Each (Contains rows) chosen = separated_first separates in
+    elim refused [
+      | inl k ↦ start_above h w rows order ordered rays p a (subst (Each (Contains rows)) (sym front) listed) (subst (λ fs. IsStartTooLarge h w fs rays) (sym front) k.1.1)
+      | inr k ↦
+          let there : Each (Contains rows) (k.earlier ++ k.row ∷ k.later) = subst (Each (Contains rows)) k.whole (separated_others separates) in
+          let own : Contains rows k.row = (each_right (Contains rows) k.earlier (k.row ∷ k.later) there).0 in
+          insert_above h w rows order ordered rays p a (chosen ++ k.earlier) k.row
+          (record { later = k.later; whole = ap (λ xs. chosen ++ xs) k.whole ∙ sym (append_assoc chosen k.earlier (k.row ∷ k.later)); enough = (let e = length-append chosen k.earlier in omega (arith, e, size)) })
+          (each_append (Contains rows) (chosen ++ k.earlier) (k.row ∷ []) (each_append (Contains rows) chosen k.earlier listed (each_left (Contains rows) k.earlier (k.row ∷ k.later) there)) (own, tt))
+          k.refused.1
+    ]

@@ -38,6 +38,8 @@ pub mod NeededForms
 pub mod Floors
 pub mod DualForms
 pub mod Coordinates
+pub mod SumCoordinates
+pub mod CoverCoordinates
 pub mod GroupCuts
 pub mod DualGroups
 pub mod SimplexCones

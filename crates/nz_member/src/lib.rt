@@ -1,7 +1,7 @@
 //! Whether a vector meets constraints, and the parts of one that does.
 //! Its contract: `answer` gives the first constraint that fails at a vector, or how often each element is taken from it.
 //! Below it stand the definitions, the lemmas on parts of `nz_order`, and the rows and constraints of `nz_vec`.
-//! A solver answers the asked vectors of a file with it.
+//! `nz_solve` answers the asked vectors of a file with it.
 //! Start with `specs/Replies.antt`, then `answer`.
 #![tactic(auto)]
 

@@ -35,8 +35,8 @@ use Rattle.nz_cover.specs.Placing.{IsInConeOf}
 use Rattle.nz_sweep.specs.Bases.{Base, IsBase}
 use Rattle.nz_primal.specs.Parts.{IsSecondCone, IsVectorOf, AreFullSimplices, IsPointOf, IsCrowded, AreCandidates}
 use Rattle.nz_primal.proofs.DualLemmas.{dual_pair, dual_only_zero, zip_length}
-use Rattle.nz_primal.proofs.CoverCoordinates.{vectors_wide, vectors_listed}
-use Rattle.nz_primal.proofs.SumCoordinates.{image_of, mapped_has, at_same, at_widths}
+use Rattle.nz_linear.proofs.CoverCoordinates.{vectors_wide, vectors_listed}
+use Rattle.nz_linear.proofs.SumCoordinates.{image_of, mapped_has, at_same, at_widths}
 
 module _ (w : ℕ) (rows rays : List Vector) (k : IsSecondCone w rows rays) where
   abbrev Member : Vector → Type 0

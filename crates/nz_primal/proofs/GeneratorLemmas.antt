@@ -16,7 +16,7 @@ use Rattle.nz_pointed.specs.Pointed.{IsNew, IsSimplexOf}
 use Rattle.nz_rays.proofs.StartLemmas.{simplex_description}
 use Rattle.nz_rays.specs.Rays.{AreRaysOnce}
 use Rattle.nz_primal.specs.Lists.{AreSeparating, IsBeforeBy, AreGenerators}
-use Rattle.nz_primal.proofs.CoverCoordinates.{vectors_listed}
+use Rattle.nz_linear.proofs.CoverCoordinates.{vectors_listed}
 
 pub pointed_of_simplex : (w : ℕ) (rows rays : List Vector) (places : List ℕ) → IsSimplexOf w rows places rays → IsPointed w rows
 pointed_of_simplex w rows rays places s x l z =

@@ -15,7 +15,7 @@ use Rattle.nz_degree.specs.Degrees.{IsInOrder}
 use Rattle.nz_degree.proofs.ElementLaws.{sorted_is_list}
 use Rattle.nz_primal.specs.Lists.{AreSeparating, IsBeforeBy}
 use Rattle.nz_primal.specs.Parts.{keyed}
-use Rattle.nz_primal.proofs.SumCoordinates.{image_of, mapped_has}
+use Rattle.nz_linear.proofs.SumCoordinates.{image_of, mapped_has}
 
 drop_append : {A : Type 0} (xs ys : List A) (n : ℕ) → length xs ≡ n → drop n (xs ++ ys) ≡ ys
 drop_append [] ys zero e = refl

@@ -1,5 +1,3 @@
-pub mod SumCoordinates
-pub mod CoverCoordinates
 mod SecondLemmas
 mod DualLemmas
 mod NormalForms

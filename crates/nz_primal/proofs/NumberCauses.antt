@@ -40,8 +40,8 @@ use Rattle.nz_primal.specs.Parts as parts
 use Rattle.nz_primal.proofs.CandidateLemmas.{zip_at}
 use Rattle.nz_primal.proofs.RunLemmas as run
 use Rattle.nz_primal.proofs.SecondLemmas as second
-use Rattle.nz_primal.proofs.SumCoordinates as sum
-use Rattle.nz_primal.proofs.CoverCoordinates.{vectors_listed}
+use Rattle.nz_linear.proofs.SumCoordinates as sum
+use Rattle.nz_linear.proofs.CoverCoordinates.{vectors_listed}
 use Rattle.nz_measures.specs.Sweeps.{Sweeps, none, onward, whole_base}
 use Rattle.nz_measures.specs.Faces.{VanishesThere, FaceMove, IsFaceSwept, in_second}
 use Rattle.nz_measures.specs.Pools.{IsRowVector, IsRowForm, normal, IsSecondFrame, IsSecondVector, IsSecondForm, held, floor_sum, normal_form, of_row}

@@ -16,7 +16,7 @@ use Rattle.nz_linear.proofs.Signs.{mul_pos, mul_is_zero, mul_is_nonneg}
 use Rattle.nz_linear.proofs.Lists.{each_map, each_map2, each_of_map, map_each, each_append}
 use Rattle.nz_linear.proofs.VectorLaws.{scaled-dot}
 use Rattle.nz_linear.proofs.NormalForms.{normal_unique}
-use Rattle.nz_primal.proofs.SumCoordinates as sum
+use Rattle.nz_linear.proofs.SumCoordinates as sum
 use Rattle.nz_primal.proofs.SecondLemmas.{row_value}
 use Rattle.nz_primal.proofs.NormalForms.{form_with_values, normal_of}
 

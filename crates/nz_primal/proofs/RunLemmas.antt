@@ -34,8 +34,8 @@ use Rattle.nz_sweep.specs.Bases.{Base, IsBase}
 use Rattle.nz_primal.specs.Lists.{ArePrimalLists, IsPrimalRefusal, HasPassedFirst}
 use Rattle.nz_primal.specs.Second.{IsFaceBase, HaveCoordinates}
 use Rattle.nz_primal.specs.Parts.{IsSettled, IsSecondCone, IsVectorOf, IsPointOf, IsCrowded, IsWalkRefusal, IsFirstRefusal, IsLastRefusal, stage_count}
-use Rattle.nz_primal.proofs.SumCoordinates as sum
-use Rattle.nz_primal.proofs.CoverCoordinates.{vectors_wide, vectors_listed, cover_forth}
+use Rattle.nz_linear.proofs.SumCoordinates as sum
+use Rattle.nz_linear.proofs.CoverCoordinates.{vectors_wide, vectors_listed, cover_forth}
 use Rattle.nz_primal.proofs.SecondLemmas as second
 use Rattle.nz_primal.proofs.PlacingCoordinates.{placings_forth}
 use Rattle.nz_primal.proofs.ElementLemmas.{different_mapped}

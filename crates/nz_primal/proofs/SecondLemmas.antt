@@ -33,7 +33,7 @@ use Rattle.nz_order.specs.Totals.{total}
 use Rattle.nz_order.proofs.RowLaws.{dot-opposite}
 use Rattle.nz_order.proofs.TotalLaws.{length-total}
 use Rattle.nz_primal.specs.Second.{IsInFace, IsFaceBase, HaveCoordinates}
-use Rattle.nz_primal.proofs.SumCoordinates.{sum_back, sum_forth, zero_of_at}
+use Rattle.nz_linear.proofs.SumCoordinates.{sum_back, sum_forth, zero_of_at}
 
 -- the value of a row at a vector is that of the row in coordinates at its coordinates
 pub row_value : (w : ℕ) (base : List Vector) (r c : Vector) → Each (HasWidth w) base → dot r (combination w c base) ≡ dot (in_coordinates base r) c

@@ -1,7 +1,7 @@
 //! The primal run: the irreducible elements of the whole vectors at which rows are at least 0, by a cover of simplices.
 //! Its contract: `primal` lists exactly the irreducible elements, exactly their extreme generators, and a good cover of these.
 //! Below it stand double description, the sweep, placing, the walk through classes and the reducer, each by its contract.
-//! A solver of whole files is to stand above it.
+//! `nz_solve` solves the files of primal mode with it.
 //! Start reading at `specs/Lists.antt`, then `primal`.
 #![tactic(auto)]
 

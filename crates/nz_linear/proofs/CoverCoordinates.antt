@@ -9,7 +9,7 @@ use Rattle.nz_spec.specs.Covers.{vectors_at, IsSimplex, IsGoodCover, Holds}
 use Rattle.nz_spec.proofs.ListLaws.{Each-contains}
 use Rattle.nz_linear.specs.Coordinates.{AreCoordinates}
 use Rattle.nz_linear.proofs.Lists.{each_map}
-use Rattle.nz_primal.proofs.SumCoordinates as sums
+use Rattle.nz_linear.proofs.SumCoordinates as sums
 
 get_mapped : (f : Vector → Vector) (xs : List Vector) (p : ℕ) → p < length xs → get_or (map f xs) p [] ≡ f (get_or xs p [])
 get_mapped f [] p h = absurd (let b : ⊥ = omega (arith, h) in b)
