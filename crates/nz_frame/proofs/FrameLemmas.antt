@@ -1,27 +1,22 @@
 -- The members of a system in a frame of it; the entries of a vector as forms on its coordinates.
-use Rattle.std.proofs.Common.{◌≡◌, ℕ, zero, suc, List, [], ◌∷◌, length, map, Option, Some, None, ℤ, pos, refl, sym, ap₂, ◌∙◌, subst, arith}
+use Rattle.std.proofs.Common.{◌≡◌, ℕ, List, [], ◌∷◌, length, map, Option, Some, None, sym, subst}
 use Rattle.std.proofs.lemmas.List.{length-map}
 use Rattle.std.specs.List.{AllByRecursion as Each}
-use Rattle.nz_spec.specs.Vectors.{Vector, dot, values_at, unit_vectors, combination, HasWidth}
+use Rattle.nz_spec.specs.Vectors.{Vector, dot, unit_vectors, HasWidth}
 use Rattle.nz_spec.specs.Systems.{System, IsSystem, IsMember}
 use Rattle.nz_spec.specs.Monoids.{IsPositive}
 use Rattle.nz_spec.specs.Forms.{IsEquationAt, IsSupportForm}
 use Rattle.nz_spec.specs.Constraints.{AreGenEquations, AreGenSupport, AreEquationsOf, AreRowsOf}
-use Rattle.nz_spec.proofs.SumLaws.{dot-combination, length-combination}
-use Rattle.nz_spec.proofs.VectorLaws.{zero-dot}
-use Rattle.nz_spec.proofs.EquationLaws.{dot_comm}
-use Rattle.std.proofs.Math.IntN.{zero-*ℤ}
 use Rattle.nz_linear.specs.Cones.{IsInRows}
 use Rattle.nz_linear.specs.Extreme.{IsPointed}
 use Rattle.nz_linear.specs.Coordinates.{AreCoordinates, in_coordinates}
-use Rattle.nz_linear.proofs.Ring.{sums, one-mul}
 use Rattle.nz_linear.proofs.Lists.{each_map, each_append, zip_to_right}
 use Rattle.nz_linear.proofs.Coordinates.{positive_forth}
 use Rattle.nz_linear.proofs.Pointed.{positive_of_pointed}
 use Rattle.nz_linear.proofs.SystemRays.{system_coordinates}
 use Rattle.nz_sweep.specs.Bases.{Base, IsBase}
 use Rattle.nz_sweep.proofs.BaseLemmas.{units_are_base}
-use Rattle.nz_frame.specs.Frames.{IsFrame, entry_forms, vector_at}
+use Rattle.nz_frame.specs.Frames.{IsFrame}
 use Rattle.nz_frame.proofs.LatticeLemmas.{base_of}
 
 -- ---- a frame
@@ -48,25 +43,6 @@ pub frame_positive : (s : System) (base : Base) (pulled : List Vector) → IsSys
 frame_positive s base pulled is fr pt =
     positive_forth base.width base.vectors (IsMember s) (IsInRows (length base.vectors) pulled) (frame_coordinates s base pulled is fr)
     (positive_of_pointed (length base.vectors) pulled (IsInRows (length base.vectors) pulled) pt (λ x m. m))
-
--- ---- the unit forms have the entries as values
-shifted : (us : List Vector) (a : ℤ) (x : Vector) → map (λ u. dot u (a ∷ x)) (map (λ u. pos 0 ∷ u) us) ≡ map (λ u. dot u x) us
-shifted [] a x = refl
-shifted (u ∷ us) a x = ap₂ (λ b y. b ∷ y) (let e = zero-*ℤ a in omega (arith, sums, e)) (shifted us a x)
-
-pub unit_values : (w : ℕ) (x : Vector) → HasWidth w x → values_at (unit_vectors w) x ≡ x
-unit_values zero [] l = refl
-unit_values zero (a ∷ x) l = absurd (let b : ⊥ = omega (arith, l) in b)
-unit_values (suc w) [] l = absurd (let b : ⊥ = omega (arith, l) in b)
-unit_values (suc w) (a ∷ x) l = ap₂ (λ b y. b ∷ y) (let e = zero-dot w x in let o = one-mul a in omega (arith, sums, e, o)) (shifted (unit_vectors w) a x ∙ unit_values w x (omega (arith, l)))
-
-pulled_values : (w : ℕ) (vs fs : List Vector) (c : Vector) → Each (HasWidth w) vs → values_at (map (λ h. in_coordinates vs h) fs) c ≡ values_at fs (combination w c vs)
-pulled_values w vs [] c l = refl
-pulled_values w vs (f ∷ fs) c l = ap₂ (λ b y. b ∷ y) (dot_comm (in_coordinates vs f) c ∙ sym (dot-combination f w c vs l)) (pulled_values w vs fs c l)
-
--- the values of the entry forms are the entries of the vector
-pub entry_values : (base : Base) (c : Vector) → IsBase base → values_at (entry_forms base) c ≡ vector_at base c
-entry_values base c is = pulled_values base.width base.vectors (unit_vectors base.width) c is.widths ∙ unit_values base.width (combination base.width c base.vectors) (length-combination base.width c base.vectors is.widths)
 
 -- ---- widths
 gen_equations_wide : (w : ℕ) (gens : Option (List Vector)) (fs : List Vector) → AreGenEquations w gens fs → Each (HasWidth w) fs

@@ -1,4 +1,17 @@
 pub mod LatticeLemmas
 pub mod CutLemmas
 pub mod FrameLemmas
+pub mod OrderLemmas
 pub mod LineLemmas
+pub mod ListSplits
+pub mod DualCoordinates
+pub mod SimplexRays
+pub mod SystemStages
+pub mod GradeLaws
+pub mod SystemLists
+pub mod LevelLists
+pub mod GroupLaws
+pub mod SweepLaws
+pub mod ConstraintLists
+pub mod SystemConstraints
+pub mod GroupExample

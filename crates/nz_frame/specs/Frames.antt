@@ -12,6 +12,7 @@ use Rattle.nz_sweep.specs.Bases.{Base, CombinationSumsFit}
 use Rattle.nz_sweep.specs.Numbers.{SomeNumberLarge, IsGeneratingNumber, IsEquationNumber, IsCongruenceNumber}
 use Rattle.nz_sweep.specs.Rounds.{IsEquationMove}
 use Rattle.nz_measures.specs.Sweeps.{IsMidway, CongruenceMove}
+use Rattle.nz_measures.specs.Pools.{order_from}
 
 -- independent vectors of width w that generate just the vectors of the set
 pub record IsBaseOf (w : ℕ) (P : Vector → Type 0) (b : Base) : Type 0 where
@@ -33,9 +34,9 @@ pub record IsFrame (s : System) (base : Base) (pulled : List Vector) : Type 0 wh
   pub is_base : IsBaseOf s.width (IsInLattice s equations) base
   pub there : pulled ≡ map (λ h. in_coordinates base.vectors h) rows
 
--- the entries of a vector, as forms on its coordinates
-abbrev pub entry_forms : Base → List Vector
-entry_forms base = map (λ h. in_coordinates base.vectors h) (unit_vectors base.width)
+-- the forms by whose values vectors of coordinates are put in order: the grading, where there is one, and then the entries
+abbrev pub order_forms : ℕ → List Vector → Option Vector → List Vector
+order_forms w vectors grading = map (λ h. in_coordinates vectors h) (order_from grading (unit_vectors w))
 
 -- the vector with these coordinates
 abbrev pub vector_at : Base → Vector → Vector

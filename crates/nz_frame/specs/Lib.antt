@@ -1,1 +1,4 @@
 pub mod Frames
+pub mod Constraining
+pub mod DualCrowds
+pub mod Elements
