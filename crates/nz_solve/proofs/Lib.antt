@@ -1,5 +1,14 @@
-mod EntryLemmas
+mod FrameLists
 mod RangeLemmas
 mod LineRefusals
-mod AnswerLemmas
+mod PrimalLemmas
+mod DualLemmas
+mod ListLemmas
+mod ReplyLaws
+mod ModesLaw
+mod OutcomeKept
 mod OutcomeLemmas
+mod AskedLemmas
+mod AskedCauses
+mod LevelExample
+mod ToldExample

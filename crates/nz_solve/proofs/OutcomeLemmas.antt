@@ -1,145 +1,125 @@
 -- Of the elements of a system what its goals ask.
-use Rattle.std.proofs.Common.{◌≡◌, ℕ, ◌<◌, List, length, Option, Some, None, Bool, true, false, IsTrue, IfSome, refl, sym, ap, ◌∙◌, subst}
-use Rattle.std.specs.Prelude.{is_some, ◌&&◌, ◌-◌, ◌≤◌}
+use Rattle.std.proofs.Common.{◌≡◌, ℕ, ◌-◌, List, Option, Some, None, IfSome, IsSome, Bool, true, false, IsTrue, pos, refl, sym, ap, ◌∙◌, subst, inl, inr}
 use Rattle.std.proofs.lemmas.Bool.{false≢true}
-use Rattle.std.specs.List.{AllByRecursion as Each, AllZip}
+use Rattle.std.specs.Prelude.{◌&&◌, ◌||◌, FitsSigned}
+use Rattle.std.specs.Int.{w128}
+use Rattle.std.specs.List.{AllByRecursion as Each}
 use Rattle.nz_spec.specs.Vectors.{Vector, HasWidth}
 use Rattle.nz_spec.specs.Order.{StandsBefore}
-use Rattle.nz_spec.specs.Systems.{System, IsSystem, IsMember}
-use Rattle.nz_spec.specs.Monoids.{IsExtreme}
-use Rattle.nz_spec.specs.Forms.{IsDescription, IsSupportForm, IsEquationAt}
-use Rattle.nz_spec.specs.Elements.{IsHilbertElement, IsHilbertBasis, IsRayElement, AreExtreme, AreRays, IsSupportDescription, IsCoverOf}
-use Rattle.nz_spec.specs.Covers.{IsSimplex}
-use Rattle.nz_linear.proofs.Lists.{each_map, zip_to_right}
-use Rattle.nz_order.proofs.SortLaws.{IsListOf-where}
-use Rattle.nz_system.specs.Meaning.{SystemData, there}
-use Rattle.nz_system.specs.declared.asked.GoalSet.{GoalSet}
-use Rattle.nz_blocks.specs.Outcomes.{OutcomeData, IsOutcome, AreRows, number}
-use Rattle.nz_solve.specs.Solutions.{IsSolution, IsWhere, AreWhere}
-use Rattle.nz_solve.specs.Parts.{AreElements}
-
-pub extreme_wide : (s : System) (list extreme : List Vector) (simplices : List (List ℕ)) → AreElements s list extreme simplices → Each (HasWidth s.width) extreme
-extreme_wide s list extreme simplices h = each_map (IsExtreme (IsMember s)) (HasWidth s.width) extreme (λ x e. e.irreducible.member.width) h.are_extreme.only
-
-pub list_wide : (s : System) (list extreme : List Vector) (simplices : List (List ℕ)) → AreElements s list extreme simplices → Each (HasWidth s.width) list
-list_wide s list extreme simplices h = each_map (IsHilbertElement s) (HasWidth s.width) list (λ x e. e.irreducible.member.width) h.basis.only
-
--- without a level the extreme generators are the extreme rays
-pub rays_of : (s : System) (extreme : List Vector) → s.level ≡ false → AreExtreme s extreme → AreRays s extreme
-rays_of s extreme e h = IsListOf-where (StandsBefore s.grading) (IsExtreme (IsMember s)) (IsRayElement s) (λ x i. record { extreme = i; level_zero = λ t. absurd (false≢true (subst IsTrue e t)) }) (λ x i. i.extreme) extreme h
+use Rattle.nz_spec.specs.Systems.{System, IsSystem, IsMember, file_width}
+use Rattle.nz_spec.specs.Monoids.{IsIrreducible, IsExtreme}
+use Rattle.nz_spec.specs.Forms.{IsDescription}
+use Rattle.nz_spec.specs.Elements.{IsHilbertElement, IsHilbertBasis, AreModuleGenerators, AreDegreeOne, AreExtreme, AreRays, AreVertices, IsSupportDescription, IsCoverOf}
+use Rattle.nz_linear.proofs.Lists.{each_map}
+use Rattle.nz_degree.proofs.ElementLaws.{ones_are_elements}
+use Rattle.nz_system.specs.Meaning.{SystemData, there, IsKept}
+use Rattle.nz_blocks.specs.Outcomes.{Asked, OutcomeData, IsOutcome, HasText}
+use Rattle.nz_measures.specs.Reaches.{HasOwnAbove}
+use Rattle.nz_frame.proofs.CutLemmas.{wide_room}
+use Rattle.nz_frame.proofs.LevelLists.{rays_picked, vertices_picked, flat_rays}
+use Rattle.nz_solve.specs.Replies.{IsWhere, AreWhere, AreAnswered}
+use Rattle.nz_solve.specs.Solutions.{IsSolution, wants_basis, wants_modules, half}
+use Rattle.nz_solve.specs.Parts.{AreElements, AreElementLists, AreOnes, AreParted, IsShownCause, wants_description, amb_at, kept_where}
+use Rattle.nz_solve.proofs.OutcomeKept as shapes
+use Rattle.nz_solve.proofs.RangeLemmas.{degree_refused, irreducible_named, described_refused}
 
 -- ---- what is wanted is there
 pub where_there : {A : Type 0} (wanted : Bool) (P : A → Type 0) (x : A) (o : Option A) → o ≡ there wanted x → P x → IsWhere wanted P o
 where_there true P x o e h = subst (IsWhere true P) (sym e) h
 where_there false P x o e h = e
 
-pub rows_there : (w : ℕ) (wanted : Bool) (xs : List Vector) (o : Option (List Vector)) → o ≡ there wanted xs → Each (HasWidth w) xs → AreRows w o
-rows_there w true xs o e h = subst (AreRows w) (sym e) h
-rows_there w false xs o e h = subst (AreRows w) (sym e) tt
+modules_there : {A : Type 0} (level rest : Bool) (P : A → Type 0) (o q : Option A) → q ≡ kept_where (level && rest) o → IsWhere level P o → IsWhere (level && rest) P q
+modules_there true true P o q e h = subst (IsWhere true P) (sym e) h
+modules_there true false P o q e h = e
+modules_there false rest P o q e h = e
 
-pub cover_there : (s : System) (wanted : Bool) (extreme : List Vector) (simplices : List (List ℕ)) (o : Option (List Vector)) (p : Option (List (List ℕ))) → o ≡ there wanted extreme → p ≡ there wanted simplices → IsCoverOf s extreme simplices → AreWhere wanted (IsCoverOf s) o p
-cover_there s true extreme simplices o p e f h = subst (λ (q : Option (List (List ℕ))). AreWhere true (IsCoverOf s) o q) (sym f) (subst (λ (q : Option (List Vector)). AreWhere true (IsCoverOf s) q (Some simplices)) (sym e) h)
+cover_there : (s : System) (wanted : Bool) (extreme : List Vector) (simplices : List (List ℕ)) (o : Option (List Vector)) (p : Option (List (List ℕ))) → o ≡ there wanted extreme → p ≡ there wanted simplices → (IsTrue wanted → IsCoverOf s extreme simplices) → AreWhere wanted (IsCoverOf s) o p
+cover_there s true extreme simplices o p e f h = subst (λ (q : Option (List (List ℕ))). AreWhere true (IsCoverOf s) o q) (sym f) (subst (λ (q : Option (List Vector)). AreWhere true (IsCoverOf s) q (Some simplices)) (sym e) (h refl))
 cover_there s false extreme simplices o p e f h = (e, f)
 
-pub description_there : (s : System) (wanted : Bool) (extreme : List Vector) (o p : Option (List Vector)) → AreExtreme s extreme → AreWhere wanted (IsDescription s.width extreme) o p → AreWhere wanted (IsSupportDescription s) o p
-description_there s true extreme (Some x) (Some y) h d = record { extreme = extreme; are_extreme = h; description = d }
+description_there : (s : System) (wanted : Bool) (extreme : List Vector) (o p : Option (List Vector)) → (IsTrue wanted → AreExtreme s extreme) → AreWhere wanted (IsDescription s.width extreme) o p → AreWhere wanted (IsSupportDescription s) o p
+description_there s true extreme (Some x) (Some y) h d = record { extreme = extreme; are_extreme = h refl; description = d }
 description_there s true extreme (Some x) None h d = absurd d
 description_there s true extreme None p h d = absurd d
 description_there s false extreme o p h d = d
 
--- ---- what an outcome keeps
-equations_wide : (w : ℕ) (G : List Vector) (columns : List ℕ) (fs : List Vector) → AllZip (IsEquationAt w G) columns fs → Each (HasWidth w) fs
-equations_wide w G columns fs z = zip_to_right (IsEquationAt w G) (HasWidth w) columns fs (λ c f e. e.width) z
+-- ---- degrees and levels
+no_grading : (o : Option Vector) → o ≡ None → IsSome o → ⊥
+no_grading None e h = false≢true h
+no_grading (Some g) e h = absurd (let f : Some g ≡ None = e in cc)
 
-pub support_rows : (w : ℕ) (wanted : Bool) (G : List Vector) (o p : Option (List Vector)) → AreWhere wanted (IsDescription w G) o p → AreRows w o
-support_rows w true G (Some x) (Some y) d = each_map (IsSupportForm w G) (HasWidth w) x (λ f s. s.width) d.support_forms.only
-support_rows w true G (Some x) None d = absurd d
-support_rows w true G None p d = absurd d
-support_rows w false G o p d = subst (AreRows w) (sym d.0) tt
+ones_there : (s : System) (wanted : Bool) (hilbert : List Vector) (ones : Option (List Vector)) → (IsTrue wanted → IsSome s.grading) → IsHilbertBasis s hilbert → AreOnes wanted s.grading hilbert ones → IsWhere wanted (AreDegreeOne s (pos 1)) ones
+ones_there s false hilbert ones given b h = h
+ones_there s true hilbert ones given b h = by s.grading ones refl h
+  where
+    by : (g : Option Vector) (o : Option (List Vector)) → s.grading ≡ g → AreOnes true g hilbert o → IsWhere true (AreDegreeOne s (pos 1)) o
+    by None o e k = absurd (no_grading s.grading e (given refl))
+    by (Some g) (Some xs) e k = ones_are_elements s g e hilbert xs b k
+    by (Some g) None e k = absurd k
 
-pub equation_rows : (w : ℕ) (wanted : Bool) (G : List Vector) (o p : Option (List Vector)) → AreWhere wanted (IsDescription w G) o p → AreRows w p
-equation_rows w true G (Some x) (Some y) d = equations_wide w G d.equation_forms.columns y d.equation_forms.each
-equation_rows w true G (Some x) None d = absurd d
-equation_rows w true G None p d = absurd d
-equation_rows w false G o p d = subst (AreRows w) (sym d.1) tt
+module _ (s : System) (is : IsSystem s) (extreme : List Vector) where
+  vertices_there : (wanted level : Bool) (vertices rays : Option (List Vector)) → s.level ≡ level → (IsTrue wanted → AreExtreme s extreme) → AreParted wanted level extreme vertices rays → IsWhere (wanted && level) (AreVertices s) vertices
+  vertices_there false level vertices rays e x h = h.0
+  vertices_there true false vertices rays e x h = h.0
+  vertices_there true true (Some vs) rays e x h = vertices_picked s is e (StandsBefore s.grading) extreme vs (x refl) h.0
+  vertices_there true true None rays e x h = absurd h.0
 
-pub both_described : {A B : Type 0} (wanted : Bool) (P : A → B → Type 0) (o : Option A) (p : Option B) → AreWhere wanted P o p → is_some p ≡ is_some o
-both_described true P (Some x) (Some y) d = refl
-both_described true P (Some x) None d = absurd d
-both_described true P None p d = absurd d
-both_described false P o p d = ap is_some d.1 ∙ sym (ap is_some d.0)
+  rays_there : (wanted level : Bool) (vertices rays : Option (List Vector)) → s.level ≡ level → (IsTrue wanted → AreExtreme s extreme) → AreParted wanted level extreme vertices rays → IsWhere wanted (AreRays s) rays
+  rays_there false level vertices rays e x h = h.1
+  rays_there true false vertices rays e x h = subst (IsWhere true (AreRays s)) (sym h.1) (flat_rays s e (StandsBefore s.grading) extreme (x refl))
+  rays_there true true vertices (Some rs) e x h = rays_picked s is e (StandsBefore s.grading) extreme rs (x refl) h.1
+  rays_there true true vertices None e x h = absurd h.1
 
-pub simplices_there : (s : System) (wanted : Bool) (extreme : List Vector) (simplices : List (List ℕ)) (o : Option (List Vector)) (p : Option (List (List ℕ))) → o ≡ there wanted extreme → p ≡ there wanted simplices → Each (IsSimplex s.width extreme) simplices → IfSome p (Each (Each (λ i. i < number o)))
-simplices_there s true extreme simplices o p e f h = subst (λ (q : Option (List (List ℕ))). IfSome q (Each (Each (λ i. i < number o)))) (sym f) (subst (λ (q : Option (List Vector)). Each (Each (λ i. i < number q)) simplices) (sym e) (each_map (IsSimplex s.width extreme) (Each (λ i. i < length extreme)) simplices (λ places k. k.within) h))
-simplices_there s false extreme simplices o p e f h = subst (λ (q : Option (List (List ℕ))). IfSome q (Each (Each (λ i. i < number o)))) (sym f) tt
+amb_there : (s : System) (level : Bool) → s.level ≡ level → amb_at level s.width ≡ file_width s
+amb_there s true e = sym (ap (λ (b : Bool). elim b [ true ↦ s.width - 1 | false ↦ s.width ]) e)
+amb_there s false e = sym (ap (λ (b : Bool). elim b [ true ↦ s.width - 1 | false ↦ s.width ]) e)
 
-pub both_there : {A B : Type 0} (wanted : Bool) (x : A) (y : B) (o : Option A) (p : Option B) → o ≡ there wanted x → p ≡ there wanted y → is_some p ≡ is_some o
-both_there true x y o p e f = ap is_some f ∙ sym (ap is_some e)
-both_there false x y o p e f = ap is_some f ∙ sym (ap is_some e)
+or_left : (a b : Bool) → IsTrue a → IsTrue (a || b)
+or_left true b h = refl
+or_left false b h = absurd (false≢true h)
+
+or_right : (a b : Bool) → IsTrue b → IsTrue (a || b)
+or_right true b h = refl
+or_right false b h = h
+
+-- ---- the extreme generators, where they are needed
+module _ (s : SystemData) (list extreme : List Vector) (simplices : List (List ℕ)) (are : AreElements s list extreme simplices) where
+  pub for_rays : IsTrue s.goals.rays → AreExtreme s.system extreme
+  for_rays t = are.are_extreme (or_left s.goals.rays s.goals.hyperplanes t)
+
+  pub for_hyperplanes : IsTrue s.goals.hyperplanes → AreExtreme s.system extreme
+  for_hyperplanes t = are.are_extreme (or_right s.goals.rays s.goals.hyperplanes t)
+
+  pub extreme_wide : IsTrue (wants_description s) → Each (HasWidth s.system.width) extreme
+  extreme_wide t = each_map (IsExtreme (IsMember s.system)) (HasWidth s.system.width) extreme (λ x e. e.irreducible.member.width) (are.are_extreme t).only
+
+pub hilbert_wide : (s : System) (hilbert : List Vector) → IsHilbertBasis s hilbert → Each (HasWidth s.width) hilbert
+hilbert_wide s hilbert b = each_map (IsHilbertElement s) (HasWidth s.width) hilbert (λ x h. h.irreducible.member.width) b.only
+
+-- why something is not shown
+pub shown_refused : (s : SystemData) (list extreme : List Vector) (simplices : List (List ℕ)) → AreElements s list extreme simplices → (hilbert : List Vector) → IsHilbertBasis s.system hilbert → IsShownCause s extreme hilbert → HasOwnAbove s.system half
+shown_refused s list extreme simplices are hilbert b (inl k) = degree_refused s.system (FitsSigned w128) wide_room k.form k.given hilbert (irreducible_named s.system are.positive hilbert (each_map (IsHilbertElement s.system) (IsIrreducible (IsMember s.system)) hilbert (λ x h. h.irreducible) b.only)) k.lacks
+shown_refused s list extreme simplices are hilbert b (inr k) = described_refused s.system extreme are.positive (for_hyperplanes s list extreme simplices are k.0) k.1
 
 -- ---- the outcome
-abbrev pub outcome_at : (amb : ℕ) (hilbert rays support equations generators : Option (List Vector)) → Option (List (List ℕ)) → OutcomeData
-outcome_at amb hilbert rays support equations generators simplices = record {
-  amb = amb;
-  level = false;
-  modules = None;
-  hilbert = hilbert;
-  degree_one = None;
-  vertices = None;
-  rays = rays;
-  support = support;
-  equations = equations;
-  generators = generators;
-  simplices = simplices;
-  asked = None;
-}
-
-and_false : (b : Bool) → false ≡ (b && false)
-and_false true = refl
-and_false false = refl
-
-wide_here : (w n : ℕ) (xs : List Vector) → n ≡ w → Each (HasWidth w) xs → Each (HasWidth n) xs
-wide_here w n xs e h = subst (λ (m : ℕ). Each (HasWidth m) xs) (sym e) h
-
-module _ (s : SystemData) (list extreme : List Vector) (covering : List (List ℕ)) (is : IsSystem s.system) (no_level : s.system.level ≡ false) (are : AreElements s.system list extreme covering) (amb : ℕ) (goals : GoalSet) (hilbert rays support equations generators : Option (List Vector)) (simplices : Option (List (List ℕ))) (ea : amb ≡ s.system.width) (eh : hilbert ≡ there goals.hilbert list) (er : rays ≡ there goals.rays extreme) (ed : AreWhere goals.hyperplanes (IsDescription amb extreme) support equations) (eg : generators ≡ there goals.cover extreme) (es : simplices ≡ there goals.cover covering) where
-  file_at : (P : ℕ → Type 0) → P (elim s.system.level [ true ↦ s.system.width - 1 | false ↦ s.system.width ]) → P amb
-  file_at P h = subst P (sym ea) (subst (λ (l : Bool). P (elim l [ true ↦ s.system.width - 1 | false ↦ s.system.width ])) no_level h)
-
-  le : Each (HasWidth amb) extreme
-  le = wide_here s.system.width amb extreme ea (extreme_wide s.system list extreme covering are)
-
-  pub outcome_kept : IsOutcome (outcome_at amb hilbert rays support equations generators simplices)
-  outcome_kept = record {
-    at_least = file_at (λ n. 1 ≤ n) is.at_least;
-    at_most = file_at (λ n. n ≤ 64) is.at_most;
-    modules = tt;
-    hilbert = rows_there amb goals.hilbert list hilbert eh (wide_here s.system.width amb list ea (list_wide s.system list extreme covering are));
-    degree_one = tt;
-    vertices = tt;
-    rays = rows_there amb goals.rays extreme rays er le;
-    support = support_rows amb goals.hyperplanes extreme support equations ed;
-    equations = equation_rows amb goals.hyperplanes extreme support equations ed;
-    generators = rows_there amb goals.cover extreme generators eg le;
-    simplices = simplices_there s.system goals.cover extreme covering generators simplices eg es are.cover.simplices;
-    asked = tt;
-    described = both_described goals.hyperplanes (IsDescription amb extreme) support equations ed;
-    covered = both_there goals.cover extreme covering generators simplices eg es;
-    bounded = and_false (is_some rays);
-    levelled = λ i. absurd (false≢true i);
-    parted = λ i. absurd (false≢true i);
-  }
-
-  pub solution_of : goals ≡ s.goals → IsSolution s (outcome_at amb hilbert rays support equations generators simplices)
-  solution_of e = record {
+module _ (s : SystemData) (kept : IsKept s) (list extreme : List Vector) (covering : List (List ℕ)) (are : AreElements s list extreme covering) (basis : List Vector) (generators_of_module : Option (List Vector)) (lists : AreElementLists s.system basis generators_of_module) (o : OutcomeData)
+    (amb : o.amb ≡ amb_at s.system.level s.system.width) (level : o.level ≡ s.system.level) (modules : o.modules ≡ kept_where (wants_modules s) generators_of_module) (hilbert : o.hilbert ≡ there (wants_basis s) basis) (ones : AreOnes s.goals.degree_one s.system.grading basis o.degree_one)
+    (parted : AreParted s.goals.rays s.system.level extreme o.vertices o.rays) (described : AreWhere s.goals.hyperplanes (IsDescription s.system.width extreme) o.support o.equations) (generators : o.generators ≡ there s.goals.cover extreme) (simplices : o.simplices ≡ there s.goals.cover covering) (asked : AreAnswered s.system s.system.asked o.asked) where
+  pub solution_of : IsSolution s o
+  solution_of = record {
     positive = are.positive;
-    amb = ea;
-    level = sym no_level;
-    hilbert = subst (λ (g : GoalSet). IsWhere g.hilbert (IsHilbertBasis s.system) hilbert) e (where_there goals.hilbert (IsHilbertBasis s.system) list hilbert eh are.basis);
-    rays = subst (λ (g : GoalSet). IsWhere g.rays (AreRays s.system) rays) e (where_there goals.rays (AreRays s.system) extreme rays er (rays_of s.system extreme no_level are.are_extreme));
-    description = subst (λ (g : GoalSet). AreWhere g.hyperplanes (IsSupportDescription s.system) support equations) e (description_there s.system goals.hyperplanes extreme support equations are.are_extreme (subst (λ (n : ℕ). AreWhere goals.hyperplanes (IsDescription n extreme) support equations) ea ed));
-    cover = subst (λ (g : GoalSet). AreWhere g.cover (IsCoverOf s.system) generators simplices) e (cover_there s.system goals.cover extreme covering generators simplices eg es (record { are_extreme = are.are_extreme; good = are.cover }));
-    no_modules = refl;
-    no_degree_one = refl;
-    no_vertices = refl;
-    no_asked = refl;
+    graded = lists.graded;
+    amb = amb ∙ amb_there s.system s.system.level refl;
+    level = level;
+    modules = modules_there s.system.level (s.goals.modules || wants_basis s) (AreModuleGenerators s.system) generators_of_module o.modules modules lists.are_modules;
+    hilbert = where_there (wants_basis s) (IsHilbertBasis s.system) basis o.hilbert hilbert lists.basis;
+    degree_one = ones_there s.system s.goals.degree_one basis o.degree_one kept.askable.degree_one lists.basis ones;
+    vertices = vertices_there s.system kept.system extreme s.goals.rays s.system.level o.vertices o.rays refl (for_rays s list extreme covering are) parted;
+    rays = rays_there s.system kept.system extreme s.goals.rays s.system.level o.vertices o.rays refl (for_rays s list extreme covering are) parted;
+    description = description_there s.system s.goals.hyperplanes extreme o.support o.equations (for_hyperplanes s list extreme covering are) described;
+    cover = cover_there s.system s.goals.cover extreme covering o.generators o.simplices generators simplices (λ t. let c = are.cover t in record { are_extreme = c.0; good = c.1 });
+    asked = asked;
   }
+
+  pub outcome_kept : IfSome o.asked (Each (λ (a : Asked). HasText s.system.level a.0 a.1)) → IsOutcome o
+  outcome_kept texts = shapes.outcome_kept s kept.system o solution_of (subst (λ (b : Bool). IfSome o.asked (Each (λ (a : Asked). HasText b a.0 a.1))) (sym level) texts)

@@ -1,5 +1,5 @@
 -- A refused part as a refusal of the system: the number that was too large is one that the run is known to form.
-use Rattle.std.proofs.Common.{◌≡◌, ◌⊎◌, inl, inr, ⊎_elim, ℕ, suc, ◌<◌, ◌≤◌, List, [], ◌∷◌, length, map, get_or, ℤ, pos, ◌*ℤ◌, ◌<ℤ◌, ◌≤ℤ◌, unsigned_abs, Option, None, refl, sym, ap, ◌∙◌, subst, arith}
+use Rattle.std.proofs.Common.{◌≡◌, ◌⊎◌, inl, inr, ⊎_elim, ℕ, suc, ◌<◌, ◌≤◌, List, [], ◌∷◌, length, map, get_or, ℤ, pos, ◌*ℤ◌, ◌<ℤ◌, ◌≤ℤ◌, unsigned_abs, Option, Some, None, refl, sym, ap, ◌∙◌, subst, arith}
 use Rattle.std.specs.Prelude.{FitsSigned}
 use Rattle.std.specs.Int.{w128}
 use Rattle.std.proofs.lemmas.Int.{ints, by_lt_z}
@@ -23,27 +23,55 @@ use Rattle.nz_vec.proofs.UnitLemmas.{length-unit_vectors, unit_vector_at}
 use Rattle.nz_vec.specs.declared.answers.Num.{Num}
 use Rattle.nz_vec.specs.declared.answers.Num.TheVariants as num
 use Rattle.nz_range.specs.Measures.{pair_measure}
+use Rattle.nz_range.proofs.Causes.{value_cause}
 use Rattle.nz_range.proofs.Fits.{size_within, within_self, value_size, pair_measure_opposite}
-use Rattle.nz_pointed.specs.Pointed.{IsLineOf, IsTooLarge}
+use Rattle.nz_spec.specs.Covers.{vectors_at}
+use Rattle.nz_spec.specs.Stages.{IsFreshRow, Separates}
+use Rattle.nz_dual.specs.Refusals.{IsRowOf}
+use Rattle.nz_dual.proofs.NumberCauses.{stage_above}
+use Rattle.nz_vec.specs.declared.answers.Work.TheVariants as work
+use Rattle.nz_pointed.specs.Pointed.{IsSimplexOf, IsLineOf, IsTooLarge}
 use Rattle.nz_sweep.specs.Bases.{Base, CombinationSumsFit, ValueSumsFit}
 use Rattle.nz_sweep.specs.Lists.{LacksPull, LacksVector}
-use Rattle.nz_watch.specs.Telling.{Watched}
+use Rattle.nz_watch.specs.Telling.{Watched, HasPassedAll}
+use Rattle.nz_input.specs.declared.kind.Mode.{Mode}
+use Rattle.nz_input.specs.declared.kind.Mode.TheVariants.{Primal, Dual}
+use Rattle.nz_degree.specs.Degrees.{LacksDegree}
 use Rattle.nz_measures.specs.Sweeps.{IsSwept}
 use Rattle.nz_measures.specs.Pools as pools
-use Rattle.nz_measures.specs.Pools.{IsRowVector, IsRowForm, normal, generator_there, irreducible_there, order_of, order_from}
-use Rattle.nz_measures.specs.Reaches.{HasPrimalAbove, primal_pool, IsPrimalReachAbove}
+use Rattle.nz_measures.specs.Pools.{IsPoolAbove, IsAmbientVector, IsAmbientForm, of_base, irreducible, IsRowVector, IsRowForm, normal, generator_there, irreducible_there, order_of, order_from}
+use Rattle.nz_measures.specs.Reaches.{HasOwnAbove, of_ambient, HasPrimalAbove, primal_pool, dual_pool, IsPrimalReachAbove, IsDualReachAbove}
 use Rattle.nz_measures.proofs.FaceCauses.{mapped}
-use Rattle.nz_measures.proofs.Measuring.{pool_pair, pool_swapped, pair_measure-swap}
-use Rattle.nz_measures.proofs.SystemCauses.{started_above, unit_pulled_above, returned_above, line_above, units_ordered, extreme_described_above}
-use Rattle.nz_frame.specs.Frames.{IsFrame, entry_forms, vector_at, LacksMultiple, LacksLine, of_vector, of_sign}
+use Rattle.nz_measures.proofs.Measuring.{vector_cause, column-unit, pull_cause, pool_pair, pool_swapped, pair_measure-swap}
+use Rattle.nz_measures.proofs.SystemCauses.{unit_pulled_above, units_ordered, extreme_described_above}
+use Rattle.nz_frame.specs.Frames.{IsFrame, order_forms, vector_at, LacksMultiple, LacksLine, of_vector, of_sign}
 use Rattle.nz_solve.specs.declared.refusal.SolveRefusal.{SolveRefusal}
-use Rattle.nz_solve.specs.Solutions.{half, WasToldSome, IsSolveRefusal}
-use Rattle.nz_solve.specs.Parts.{IsReckonRefusal, IsLineRefusal}
+use Rattle.nz_solve.specs.declared.refusal.SolveRefusal.TheVariants.{Line, Grade, Range, TooMany, Stopped, NoMemory}
+use Rattle.nz_solve.specs.Solutions.{half, AreToldOf, WasToldSome, IsReachAbove, IsSolveRefusal}
+use Rattle.nz_solve.specs.Parts.{IsReckonRefusal, IsLineRefusal, IsOutcomeRefusal}
 
 -- ---- a call that only reckons
-pub reckon_refused : (s : System) (limit : ℕ) (before now : Watched) → WasToldSome s before now → (e : Num) (r : SolveRefusal) → (e ≡ num.Range → IsPrimalReachAbove s half) → IsReckonRefusal e r → IsSolveRefusal s limit before now r
-reckon_refused s limit before now t num.Range r f i = subst (IsSolveRefusal s limit before now) (sym i) (f refl, t)
-reckon_refused s limit before now t num.NoMemory r f i = subst (IsSolveRefusal s limit before now) (sym i) t
+pub reckon_refused : (mode : Mode) (s : System) (limit : ℕ) (before now : Watched) → WasToldSome mode s before now → (e : Num) (r : SolveRefusal) → (e ≡ num.Range → IsReachAbove mode s half) → IsReckonRefusal e r → IsSolveRefusal mode s limit before now r
+reckon_refused mode s limit before now t num.Range r f i = subst (IsSolveRefusal mode s limit before now) (sym i) (f refl, t)
+reckon_refused mode s limit before now t num.NoMemory r f i = subst (IsSolveRefusal mode s limit before now) (sym i) t
+
+-- a number in the coordinates of the file is the cause in both modes
+pub own_reach : (mode : Mode) (s : System) → HasOwnAbove s half → IsReachAbove mode s half
+own_reach Primal s h = inl h
+own_reach Dual s h = inl h
+
+-- a refusal by the algorithm of the mode
+pub refused_by : (mode by : Mode) (s : System) (limit : ℕ) (before now : Watched) (r : SolveRefusal) → mode ≡ by → IsSolveRefusal by s limit before now r → IsSolveRefusal mode s limit before now r
+refused_by mode by s limit before now r e h = subst (λ (m : Mode). IsSolveRefusal m s limit before now r) (sym e) h
+
+-- nothing more is told after the elements are found
+pub outcome_refused : (mode : Mode) (s : System) (limit : ℕ) (before now : Watched) → IsPositive (IsMember s) → HasPassedAll (AreToldOf mode s) 0 before now → (r : SolveRefusal) → IsOutcomeRefusal s r → IsSolveRefusal mode s limit before now r
+outcome_refused mode s limit before now p t (Line v) h = absurd h
+outcome_refused mode s limit before now p t (Grade x) h = (p, h, t)
+outcome_refused mode s limit before now p t Range h = (own_reach mode s h, inr (t.passed, t.telling))
+outcome_refused mode s limit before now p t TooMany h = absurd h
+outcome_refused mode s limit before now p t (Stopped stage) h = absurd h
+outcome_refused mode s limit before now p t NoMemory h = inr (t.passed, t.telling)
 
 -- a line that is not shown
 pub line_reckoned : (b : Base) (line : Vector) (e : Num) (r : SolveRefusal) → (e ≡ num.Range → LacksLine (FitsSigned w128) b line) → IsReckonRefusal e r → IsLineRefusal b line r
@@ -76,56 +104,85 @@ module _ (s : System) (base : Base) (pulled : List Vector) (fr : IsFrame s base 
   widths : Each (HasWidth s.width) base.vectors
   widths = fr.is_base.widths
 
-  -- without a grading the forms of the order are the unit forms
-  order_is : s.grading ≡ None → order ≡ entry_forms base
-  order_is e = ap (λ (fs : List Vector). map (λ (h : Vector). in_coordinates base.vectors h) fs) (ap (λ (g : Option Vector). order_from g (unit_vectors s.width)) e ∙ ap unit_vectors (sym fr.is_base.width))
+  -- a vector of the pool in coordinates, a form of it, or a form at a vector
+  pool_reach : (mode : Mode) → IsPoolAbove half (IsRowVector (length base.vectors) pulled) (IsRowForm pulled order) → IsReachAbove mode s half
+  pool_reach Primal k = inr (record { base = base; rows = pulled; order = order; frame = here; above = primal_pool k })
+  pool_reach Dual k = inr (record { base = base; rows = pulled; order = order; frame = here; above = dual_pool k })
 
   -- the rows are refused at the start
-  pub start_refused : IsTooLarge half (length base.vectors) pulled → IsPrimalReachAbove s half
-  start_refused k = started_above half s base pulled order here k
+  pub start_refused : (mode : Mode) → IsTooLarge half (length base.vectors) pulled → IsReachAbove mode s half
+  start_refused mode (inl k) = pool_reach mode (inl (record { vector = k.vector; named = inl (normal k.named); large = k.large }))
+  start_refused mode (inr k) = pool_reach mode (pool_pair half (IsRowVector (length base.vectors) pulled) (IsRowForm pulled order) k.form k.vector (inl k.is_form) (normal k.named) k.large)
 
-  -- a unit form cannot be pulled
-  pub units_refused : (w : ℕ) → w ≡ s.width → LacksPull fits base (unit_vectors w) → IsPrimalReachAbove s half
-  units_refused w e k =
-      let p = place_of [] (unit_vectors w) k.form k.has in
+  -- the grading or a unit form cannot be pulled
+  form_refused : (w : ℕ) → w ≡ s.width → (f : Vector) → Contains (unit_vectors w) f → ¬ ValueSumsFit fits f base.vectors → HasOwnAbove s half
+  form_refused w e f has out =
+      let p = place_of [] (unit_vectors w) f has in
       let l : p.0 < w = subst (λ (n : ℕ). p.0 < n) (length-unit_vectors w) p.1 in
-      let same : k.form ≡ unit_at w p.0 = sym p.2 ∙ unit_vector_at w p.0 l in
-      inl (unit_pulled_above half fits room s base p.0 (subst (λ (n : ℕ). p.0 < n) e l) widths swept (subst (λ (f : Vector). ¬ ValueSumsFit fits f base.vectors) (same ∙ ap (λ (n : ℕ). unit_at n p.0) e) k.outside))
+      let same : f ≡ unit_at w p.0 = sym p.2 ∙ unit_vector_at w p.0 l in
+      unit_pulled_above half fits room s base p.0 (subst (λ (n : ℕ). p.0 < n) e l) widths swept (subst (λ (f : Vector). ¬ ValueSumsFit fits f base.vectors) (same ∙ ap (λ (n : ℕ). unit_at n p.0) e) out)
+
+  pub order_refused : (w : ℕ) (grading : Option Vector) → w ≡ s.width → grading ≡ s.grading → LacksPull fits base (order_from grading (unit_vectors w)) → HasOwnAbove s half
+  order_refused w grading e f k = by grading (sym f) k.has
+    where
+      by : (g : Option Vector) → s.grading ≡ g → Contains (order_from g (unit_vectors w)) k.form → HasOwnAbove s half
+      by None given has = form_refused w e k.form has k.outside
+      by (Some g) given has = elim (contains_cases g (unit_vectors w) k.form has) [
+        | inl same ↦ (let u = pull_cause half fits room k.form base.vectors k.outside in of_ambient (pool_pair half (IsAmbientVector s) (IsAmbientForm s) k.form u.0 (subst (IsAmbientForm s) same (pools.grading given)) (of_base swept u.1) u.2))
+        | inr there ↦ form_refused w e k.form there k.outside
+      ]
 
   -- the primal run is refused
-  pub primal_above : (n : ℕ) (forms : List Vector) → s.grading ≡ None → n ≡ length base.vectors → forms ≡ entry_forms base → HasPrimalAbove half n pulled forms → IsPrimalReachAbove s half
-  primal_above n forms no_grading e f k = inr (record {
+  pub primal_above : (n : ℕ) (forms : List Vector) → n ≡ length base.vectors → forms ≡ order_forms s.width base.vectors s.grading → HasPrimalAbove half n pulled forms → IsPrimalReachAbove s half
+  primal_above n forms e f k = inr (record {
     base = base;
     rows = pulled;
     order = order;
     frame = here;
-    above = subst (λ (fs : List Vector). HasPrimalAbove half (length base.vectors) pulled fs) (f ∙ sym (order_is no_grading)) (subst (λ (m : ℕ). HasPrimalAbove half m pulled forms) e k);
+    above = subst (λ (fs : List Vector). HasPrimalAbove half (length base.vectors) pulled fs) f (subst (λ (m : ℕ). HasPrimalAbove half m pulled forms) e k);
   })
 
+  -- a stage of the dual run is refused
+  pub dual_above : (limit : ℕ) (rays others : List Vector) (places : List ℕ) → IsPositive (IsInRows (length base.vectors) pulled) → IsSimplexOf (length base.vectors) pulled places rays → length places ≡ length base.vectors → Separates (IsFreshRow (HasWidth (length base.vectors))) [] pulled (vectors_at pulled places) others
+      → (passed : ℕ) → IsRowOf half limit (length base.vectors) (vectors_at pulled places) rays others passed (work.Range 0) → IsDualReachAbove s half
+  dual_above limit rays others places p sx n t passed h = inr (record { base = base; rows = pulled; order = order; frame = here; above = stage_above half limit (length base.vectors) pulled order rays others places p sx n t passed h })
+
   -- a listed vector cannot be brought back
-  back_refused : (cs : List Vector) → Each (IsRowVector (length base.vectors) pulled) cs → LacksVector fits base cs → IsPrimalReachAbove s half
-  back_refused cs named k = returned_above half fits room s base pulled order k.coordinates here widths (Each-contains (IsRowVector (length base.vectors) pulled) cs k.coordinates named k.has) (subst (λ (n : ℕ). ¬ CombinationSumsFit fits n k.coordinates base.vectors) fr.is_base.width k.outside)
+  returned_large : (c : Vector) → IsRowVector (length base.vectors) pulled c → ¬ CombinationSumsFit fits s.width c base.vectors → IsPoolAbove half (IsRowVector (length base.vectors) pulled) (IsRowForm pulled order)
+  returned_large c v out =
+      let u = vector_cause half fits room s.width c base.vectors out in
+      let unit = unit_at s.width u.0 in
+      let l : half <ℤ pos (pair_measure c (in_coordinates base.vectors unit)) = subst (λ (g : Vector). half <ℤ pos (pair_measure c g)) (column-unit s.width u.0 base.vectors widths) u.2 in
+      let there : Contains order (in_coordinates base.vectors unit) = mapped (λ (g : Vector). in_coordinates base.vectors g) (order_of s) unit (units_ordered s unit (unit_at_listed s.width u.0 u.1)) in
+      pool_swapped half (IsRowVector (length base.vectors) pulled) (IsRowForm pulled order) (in_coordinates base.vectors unit) c (inr there) v l
+
+  pub back_refused : (mode : Mode) (cs : List Vector) → Each (IsRowVector (length base.vectors) pulled) cs → LacksVector fits base cs → IsReachAbove mode s half
+  back_refused mode cs named k = pool_reach mode (returned_large k.coordinates (Each-contains (IsRowVector (length base.vectors) pulled) cs k.coordinates named k.has) (subst (λ (n : ℕ). ¬ CombinationSumsFit fits n k.coordinates base.vectors) fr.is_base.width k.outside))
+
+  pub list_refused : (mode : Mode) (list : List Vector) → IsPositive (IsInRows (length base.vectors) pulled) → Each (IsIrreducible (IsInRows (length base.vectors) pulled)) list → LacksVector fits base list → IsReachAbove mode s half
+  list_refused mode list p i k = back_refused mode list (each_map (IsIrreducible (IsInRows (length base.vectors) pulled)) (IsRowVector (length base.vectors) pulled) list (λ v k. irreducible_there p k) i) k
+
+  pub extreme_refused : (mode : Mode) (extreme : List Vector) → IsPositive (IsInRows (length base.vectors) pulled) → Each (IsExtreme (IsInRows (length base.vectors) pulled)) extreme → LacksVector fits base extreme → IsReachAbove mode s half
+  extreme_refused mode extreme p x k = back_refused mode extreme (each_map (IsExtreme (IsInRows (length base.vectors) pulled)) (IsRowVector (length base.vectors) pulled) extreme (λ v k. generator_there p k) x) k
 
   pub elements_refused : (list extreme : List Vector) → IsPointed (length base.vectors) pulled → Each (IsIrreducible (IsInRows (length base.vectors) pulled)) list → Each (IsExtreme (IsInRows (length base.vectors) pulled)) extreme → LacksVector fits base list ⊎ LacksVector fits base extreme → IsPrimalReachAbove s half
   elements_refused list extreme pt i x =
       let p : IsPositive (IsInRows (length base.vectors) pulled) = positive_of_pointed (length base.vectors) pulled (IsInRows (length base.vectors) pulled) pt (λ v m. m) in
-      ⊎_elim
-      (back_refused list (each_map (IsIrreducible (IsInRows (length base.vectors) pulled)) (IsRowVector (length base.vectors) pulled) list (λ v k. irreducible_there p k) i))
-      (back_refused extreme (each_map (IsExtreme (IsInRows (length base.vectors) pulled)) (IsRowVector (length base.vectors) pulled) extreme (λ v k. generator_there p k) x))
+      ⊎_elim (list_refused Primal list p i) (extreme_refused Primal extreme p x)
 
   -- ---- a line
   -- an entry of the vector of a line is above the half
-  entry_refused : (line : Vector) (j : ℕ) → j < s.width → IsNormalForm (length base.vectors) pulled line ⊎ IsNormalForm (length base.vectors) pulled (opposite line) → half <ℤ pos (pair_measure line (in_coordinates base.vectors (unit_at s.width j))) → IsPrimalReachAbove s half
+  entry_refused : (line : Vector) (j : ℕ) → j < s.width → IsNormalForm (length base.vectors) pulled line ⊎ IsNormalForm (length base.vectors) pulled (opposite line) → half <ℤ pos (pair_measure line (in_coordinates base.vectors (unit_at s.width j))) → IsPoolAbove half (IsRowVector (length base.vectors) pulled) (IsRowForm pulled order)
   entry_refused line j l n m =
       let form = in_coordinates base.vectors (unit_at s.width j) in
       let there : Contains order form = mapped (λ (g : Vector). in_coordinates base.vectors g) (order_of s) (unit_at s.width j) (units_ordered s (unit_at s.width j) (unit_at_listed s.width j l)) in
       let turned : half <ℤ pos (pair_measure form (opposite line)) = subst (λ (k : ℕ). half <ℤ pos k) (pair_measure-swap line form ∙ sym (pair_measure_opposite form line)) m in
       ⊎_elim
-      (λ k. inr (record { base = base; rows = pulled; order = order; frame = here; above = primal_pool (pool_swapped half (IsRowVector (length base.vectors) pulled) (IsRowForm pulled order) form line (inr there) (normal k) m) }))
-      (λ k. inr (record { base = base; rows = pulled; order = order; frame = here; above = primal_pool (pool_pair half (IsRowVector (length base.vectors) pulled) (IsRowForm pulled order) form (opposite line) (inr there) (normal k) turned) }))
+      (λ k. pool_swapped half (IsRowVector (length base.vectors) pulled) (IsRowForm pulled order) form line (inr there) (normal k) m)
+      (λ k. pool_pair half (IsRowVector (length base.vectors) pulled) (IsRowForm pulled order) form (opposite line) (inr there) (normal k) turned)
       n
 
-  sign_refused : (line : Vector) (t : ℤ) → IsLineOf (length base.vectors) pulled line → unsigned_abs t ≡ 1 → LacksMultiple fits t (vector_at base line) → IsPrimalReachAbove s half
+  sign_refused : (line : Vector) (t : ℤ) → IsLineOf (length base.vectors) pulled line → unsigned_abs t ≡ 1 → LacksMultiple fits t (vector_at base line) → IsPoolAbove half (IsRowVector (length base.vectors) pulled) (IsRowForm pulled order)
   sign_refused line t li u k =
       let w = s.width in
       let v : Vector = combination w line base.vectors in
@@ -141,10 +198,26 @@ module _ (s : System) (base : Base) (pulled : List Vector) (fr : IsFrame s base 
       above_more : (h : ℤ) (a b : ℕ) → h <ℤ pos a → a ≤ b → h <ℤ pos b
       above_more h a b l m = omega (arith, ints, l, m)
 
-  pub line_refused : (line : Vector) → IsLineOf (length base.vectors) pulled line → LacksLine fits base line → IsPrimalReachAbove s half
-  line_refused line li (of_vector out) = line_above half fits room s base pulled order line here widths li.normal (subst (λ (n : ℕ). ¬ CombinationSumsFit fits n line base.vectors) fr.is_base.width out)
-  line_refused line li (of_sign {t} u k) = sign_refused line t li u k
+  line_back : (line : Vector) → IsNormalForm (length base.vectors) pulled line ⊎ IsNormalForm (length base.vectors) pulled (opposite line) → ¬ CombinationSumsFit fits s.width line base.vectors → IsPoolAbove half (IsRowVector (length base.vectors) pulled) (IsRowForm pulled order)
+  line_back line n out =
+      let u = vector_cause half fits room s.width line base.vectors out in
+      entry_refused line u.0 u.1 n (subst (λ (g : Vector). half <ℤ pos (pair_measure line g)) (column-unit s.width u.0 base.vectors widths) u.2)
 
+  pub line_refused : (mode : Mode) (line : Vector) → IsLineOf (length base.vectors) pulled line → LacksLine fits base line → IsReachAbove mode s half
+  line_refused mode line li (of_vector out) = pool_reach mode (line_back line li.normal (subst (λ (n : ℕ). ¬ CombinationSumsFit fits n line base.vectors) fr.is_base.width out))
+  line_refused mode line li (of_sign {t} u k) = pool_reach mode (sign_refused line t li u k)
+
+-- ---- of the elements
 -- the description of the extreme generators is refused
-pub outcome_refused : (s : System) (extreme : List Vector) → IsPositive (IsMember s) → AreExtreme s extreme → IsTooLarge half s.width extreme → IsPrimalReachAbove s half
-outcome_refused s extreme p a k = inl (extreme_described_above half s extreme p a k)
+pub described_refused : (s : System) (extreme : List Vector) → IsPositive (IsMember s) → AreExtreme s extreme → IsTooLarge half s.width extreme → HasOwnAbove s half
+described_refused s extreme p a k = extreme_described_above half s extreme p a k
+
+-- the degree of a named vector is no value
+pub degree_refused : (s : System) (fits : ℤ → Type 0) → HasRoom half fits → (grading : Vector) → s.grading ≡ Some grading → (xs : List Vector) → Each (IsAmbientVector s) xs → LacksDegree fits grading xs → HasOwnAbove s half
+degree_refused s fits room grading given xs named k = of_ambient (pool_pair half (IsAmbientVector s) (IsAmbientForm s) grading k.row (pools.grading given) (Each-contains (IsAmbientVector s) xs k.row named k.listed) (value_cause half fits room grading k.row k.lacks))
+
+pub irreducible_named : (s : System) → IsPositive (IsMember s) → (xs : List Vector) → Each (IsIrreducible (IsMember s)) xs → Each (IsAmbientVector s) xs
+irreducible_named s p xs i = each_map (IsIrreducible (IsMember s)) (IsAmbientVector s) xs (λ x k. irreducible p k) i
+
+pub extreme_named : (s : System) → IsPositive (IsMember s) → (xs : List Vector) → Each (IsExtreme (IsMember s)) xs → Each (IsAmbientVector s) xs
+extreme_named s p xs i = each_map (IsExtreme (IsMember s)) (IsAmbientVector s) xs (λ x k. pools.extreme p k) i

@@ -1,2 +1,4 @@
+pub mod Replies
 pub mod Solutions
 pub mod Parts
+pub mod Laws

@@ -1,34 +1,169 @@
 -- What the parts of the solver answer.
-use Rattle.std.specs.Prelude.{◌≡◌, ℕ, List, map, None, FitsSigned}
+use Rattle.std.specs.Prelude.{◌≡◌, ◌⊎◌, ⊤, ◌||◌, ℕ, ◌-◌, ℤ, pos, Bool, true, false, IsTrue, List, [], length, get_or, Option, Some, None, Contains, FitsSigned, IfSome}
 use Rattle.std.specs.Int.{w128}
 use Rattle.std.specs.List.Sorted.{IsPermutation}
-use Rattle.nz_spec.specs.Vectors.{Vector}
+use Rattle.std.specs.List.{AllByRecursion as Each}
+use Rattle.nz_spec.specs.Vectors.{Vector, HasWidth}
+use Rattle.nz_spec.specs.Order.{degree, ListsOnce}
 use Rattle.nz_spec.specs.Systems.{System, IsMember}
-use Rattle.nz_spec.specs.Monoids.{IsPositive}
-use Rattle.nz_spec.specs.Elements.{IsHilbertBasis, AreExtreme}
+use Rattle.nz_spec.specs.Monoids.{IsPositive, IsIrreducible}
+use Rattle.nz_spec.specs.Elements.{IsHilbertBasis, AreModuleGenerators, AreExtreme, IsFirstNotPositive}
+use Rattle.nz_spec.specs.Constraints.{Constraint}
 use Rattle.nz_spec.specs.Covers.{IsGoodCover}
-use Rattle.nz_degree.specs.Degrees.{IsInOrder}
+use Rattle.nz_order.specs.Picks.{Picks}
+use Rattle.nz_degree.specs.Degrees.{LacksDegree, IsInOrder}
+use Rattle.nz_degree.specs.Levels.{IsAtLevel}
+use Rattle.nz_degree.specs.Positivities.{Tells}
+use Rattle.nz_degree.specs.declared.positivity.Positivity.TheVariants.{Positive, NotPositive}
+use Rattle.nz_pointed.specs.Pointed.{IsTooLarge}
 use Rattle.nz_sweep.specs.Bases.{Base}
+use Rattle.nz_system.specs.Meaning.{SystemData}
+use Rattle.nz_measures.specs.Reaches.{HasOwnAbove}
+use Rattle.nz_member.specs.Values.{IsOfWidth}
+use Rattle.nz_member.specs.Replies.{IsInMonoid, IsReplyTo, HasItsValue, LacksNumber}
+use Rattle.nz_blocks.specs.Outcomes.{Asked, at_level}
+use Rattle.nz_frame.specs.Elements.{IsGraded}
 use Rattle.nz_frame.specs.Frames.{vector_at, IsLed, LacksLine}
+use Rattle.nz_solve.specs.Replies.{IsWhere}
+use Rattle.nz_solve.specs.Solutions.{half}
 use Rattle.nz_vec.specs.declared.answers.Num.{Num}
 use Rattle.nz_vec.specs.declared.answers.Num.TheVariants as num
 use Rattle.nz_vec.specs.declared.answers.Work.{Work}
 use Rattle.nz_vec.specs.declared.answers.Work.TheVariants as work
 use Rattle.nz_solve.specs.declared.refusal.SolveRefusal.{SolveRefusal}
-use Rattle.nz_solve.specs.declared.refusal.SolveRefusal.TheVariants.{Line, Range, TooMany, Stopped, NoMemory}
+use Rattle.nz_solve.specs.declared.refusal.SolveRefusal.TheVariants.{Line, Grade, Range, TooMany, Stopped, NoMemory}
 
--- the elements of the system: its Hilbert basis, its extreme generators, and a good cover of these
-pub record AreElements (s : System) (list extreme : List Vector) (simplices : List (List ℕ)) : Type 0 where
+-- ---- elements
+
+-- the irreducible elements of all levels, each once, the extreme generators in order, and a good cover of these
+pub record AreAllElements (s : System) (list extreme : List Vector) (simplices : List (List ℕ)) : Type 0 where
   pub positive : IsPositive (IsMember s)
-  pub basis : IsHilbertBasis s list
+  pub lists : ListsOnce (IsIrreducible (IsMember s)) list
   pub are_extreme : AreExtreme s extreme
   pub cover : IsGoodCover s.width (IsMember s) extreme simplices
 
--- the vectors with the coordinates of the list, in order, and those of the extreme generators in theirs
-pub record AreBroughtBack (base : Base) (list extreme : List Vector) (list' extreme' : List Vector) : Type 0 where
-  pub moved : IsPermutation (map (vector_at base) list) list'
-  pub in_order : IsInOrder None list'
-  pub same : extreme' ≡ map (vector_at base) extreme
+-- the extreme generators are needed for the extreme rays and for the support forms
+abbrev pub wants_description : SystemData → Bool
+wants_description s = s.goals.rays || s.goals.hyperplanes
+
+-- the irreducible elements, and of the rest what the goals need
+pub record AreElements (s : SystemData) (list extreme : List Vector) (simplices : List (List ℕ)) : Type 0 where
+  pub positive : IsPositive (IsMember s.system)
+  pub lists : ListsOnce (IsIrreducible (IsMember s.system)) list
+  pub are_extreme : IsTrue (wants_description s) → AreExtreme s.system extreme
+  pub cover : IsTrue s.goals.cover → AreExtreme s.system extreme × IsGoodCover s.system.width (IsMember s.system) extreme simplices
+
+-- ---- lists by level and degree
+
+-- with a level the elements of level 0 and those of level 1, and else all
+abbrev pub AreLevels : Bool → (list zero one : List Vector) → Type 0
+AreLevels true list zero one = Picks (IsAtLevel (pos 0)) list zero × Picks (IsAtLevel (pos 1)) list one
+AreLevels false list zero one = zero ≡ list
+
+-- no grading, or each degree is positive
+abbrev pub ArePositive : Option Vector → List Vector → Type 0
+ArePositive None list = ⊤
+ArePositive (Some grading) list = Tells grading list Positive
+
+-- at some place of the list stands x, the first of those whose degree is not positive
+pub record IsNotPositiveAt (grading : Option Vector) (list : List Vector) (x : Vector) : Type 0 where
+  pub form : Vector
+  pub given : grading ≡ Some form
+  pub place : ℕ
+  pub tells : Tells form list (NotPositive place)
+  pub shown : x ≡ get_or list place []
+
+-- the degree of a row of the list is no value
+pub record LacksSomeDegree (fits : ℤ → Type 0) (grading : Option Vector) (list : List Vector) : Type 0 where
+  pub form : Vector
+  pub given : grading ≡ Some form
+  pub lacks : LacksDegree fits form list
+
+-- the degree of a row of the first level is no value, or with a level that of one of the second
+abbrev pub IsLevelCause : (ℤ → Type 0) → Bool → Option Vector → (zero one : List Vector) → Type 0
+IsLevelCause fits level grading zero one = LacksSomeDegree fits grading zero ⊎ (IsTrue level × LacksSomeDegree fits grading one)
+
+-- why degrees are refused
+abbrev pub IsDegreeRefusal : Option Vector → List Vector → SolveRefusal → Type 0
+IsDegreeRefusal grading list (Line v) = ⊥
+IsDegreeRefusal grading list (Grade x) = IsNotPositiveAt grading list x
+IsDegreeRefusal grading list Range = LacksSomeDegree (FitsSigned w128) grading list
+IsDegreeRefusal grading list TooMany = ⊥
+IsDegreeRefusal grading list (Stopped stage) = ⊥
+IsDegreeRefusal grading list NoMemory = ⊤
+
+-- the same rows in order
+pub record IsSorted (grading : Option Vector) (list sorted : List Vector) : Type 0 where
+  pub moved : IsPermutation list sorted
+  pub in_order : IsInOrder grading sorted
+
+-- the rows of both levels in order, the second where there is a level
+pub record AreSorted (level : Bool) (grading : Option Vector) (zero one hilbert : List Vector) (modules : Option (List Vector)) : Type 0 where
+  pub first : IsSorted grading zero hilbert
+  pub second : IsWhere level (IsSorted grading one) modules
+
+-- the Hilbert basis, whose degrees are positive, and with a level the module generators
+pub record AreElementLists (s : System) (hilbert : List Vector) (modules : Option (List Vector)) : Type 0 where
+  pub graded : IsGraded s
+  pub basis : IsHilbertBasis s hilbert
+  pub are_modules : IsWhere s.level (AreModuleGenerators s) modules
+
+-- where they are wanted and a grading is given, the rows of degree 1
+abbrev pub AreOnes : (wanted : Bool) → Option Vector → List Vector → Option (List Vector) → Type 0
+AreOnes false grading hilbert ones = ones ≡ None
+AreOnes true None hilbert ones = ones ≡ None
+AreOnes true (Some grading) hilbert ones = IsWhere true (Picks (λ x. degree grading x ≡ pos 1) hilbert) ones
+
+-- where they are wanted, all without a level, and with one those of positive level and those of level 0
+abbrev pub AreParted : (wanted level : Bool) → List Vector → (vertices rays : Option (List Vector)) → Type 0
+AreParted false level extreme vertices rays = (vertices ≡ None) × (rays ≡ None)
+AreParted true false extreme vertices rays = (vertices ≡ None) × (rays ≡ Some extreme)
+AreParted true true extreme vertices rays = IsWhere true (Picks (λ x. ¬ IsAtLevel (pos 0) x) extreme) vertices × IsWhere true (Picks (IsAtLevel (pos 0)) extreme) rays
+
+-- the list, where it is wanted
+abbrev pub kept_where : {A : Type 0} → Bool → Option A → Option A
+kept_where true o = o
+kept_where false o = None
+
+-- the number of entries of a vector of the file
+abbrev pub amb_at : Bool → ℕ → ℕ
+amb_at true width = width - 1
+amb_at false width = width
+
+-- why something is not shown: a degree is no value, or the description of the extreme generators forms a number above the half
+abbrev pub IsShownCause : SystemData → (extreme hilbert : List Vector) → Type 0
+IsShownCause s extreme hilbert = LacksSomeDegree (FitsSigned w128) s.system.grading hilbert ⊎ (IsTrue s.goals.hyperplanes × IsTooLarge half s.system.width extreme)
+
+-- ---- asked vectors
+
+-- the constraints and the lists are on vectors as wide as x with its level
+pub record IsFitting (cs : List Constraint) (level : Bool) (hilbert : List Vector) (modules : Option (List Vector)) (x : Vector) : Type 0 where
+  pub forms : Each (IsOfWidth (length (at_level level x))) cs
+  pub elements : Each (IsInMonoid (length (at_level level x)) cs) hilbert
+  pub generators : IfSome modules (Each (HasWidth (length (at_level level x))))
+
+-- the vector, with its level, and its reply by the constraints, whose form has a value there
+pub record IsAnswered (cs : List Constraint) (level : Bool) (hilbert : List Vector) (modules : Option (List Vector)) (x : Vector) (a : Asked) : Type 0 where
+  pub same : a.0 ≡ x
+  pub reply : IsReplyTo (λ z. z) cs (at_level level x) hilbert modules a.1
+  pub value : HasItsValue (λ z. z) (FitsSigned w128) (at_level level x) a.1
+
+-- at one of the vectors, with its level, or at an element of the lists, the form of a constraint has no value
+pub record LacksReply (fits : ℤ → Type 0) (cs : List Constraint) (level : Bool) (hilbert : List Vector) (modules : Option (List Vector)) (xs : List Vector) : Type 0 where
+  pub vector : Vector
+  pub listed : Contains xs vector
+  pub lacks : LacksNumber fits cs (at_level level vector) hilbert modules
+
+-- ---- refusals
+
+-- why the elements give no outcome: a degree that is not positive, or a number above the half
+abbrev pub IsOutcomeRefusal : System → SolveRefusal → Type 0
+IsOutcomeRefusal s (Line v) = ⊥
+IsOutcomeRefusal s (Grade x) = IsFirstNotPositive s x
+IsOutcomeRefusal s Range = HasOwnAbove s half
+IsOutcomeRefusal s TooMany = ⊥
+IsOutcomeRefusal s (Stopped stage) = ⊥
+IsOutcomeRefusal s NoMemory = ⊤
 
 -- the same refusal, of a call that only reckons
 abbrev pub IsReckonRefusal : Num → SolveRefusal → Type 0
@@ -45,6 +180,7 @@ IsSameRefusal work.NoMemory r = r ≡ NoMemory
 -- the line of a base, or why it is not shown
 abbrev pub IsLineRefusal : Base → Vector → SolveRefusal → Type 0
 IsLineRefusal b line (Line v) = IsLed (vector_at b line) v
+IsLineRefusal b line (Grade x) = ⊥
 IsLineRefusal b line Range = LacksLine (FitsSigned w128) b line
 IsLineRefusal b line TooMany = ⊥
 IsLineRefusal b line (Stopped stage) = ⊥

@@ -1,80 +1,82 @@
--- What a solved system answers.
-use Rattle.std.specs.Prelude.{◌≡◌, ◌⊎◌, ◌≤◌, ◌^◌, ℕ, ℤ, pos, Bool, true, false, List, [], length, Option, Some, None}
-use Rattle.nz_spec.specs.Vectors.{Vector}
-use Rattle.nz_spec.specs.Systems.{System, IsMember}
+-- What a solved system answers, in both modes, and why there is no outcome.
+use Rattle.std.specs.Prelude.{◌≡◌, ◌⊎◌, ◌^◌, ◌&&◌, ◌||◌, is_some, ℕ, ℤ, pos, Bool, false, List, []}
+use Rattle.nz_spec.specs.Systems.{System, IsMember, file_width}
 use Rattle.nz_spec.specs.Monoids.{IsPositive, IsLeastLine}
-use Rattle.nz_spec.specs.Elements.{IsHilbertBasis, AreRays, IsSupportDescription, IsCoverOf}
-use Rattle.nz_spec.specs.Stages.{ArePrimalStages, AreTold}
+use Rattle.nz_spec.specs.Elements.{IsHilbertBasis, AreModuleGenerators, AreDegreeOne, AreRays, AreVertices, IsSupportDescription, IsCoverOf, IsFirstNotPositive}
+use Rattle.nz_spec.specs.Stages.{ArePrimalStages, AreDualStages, AreTold}
 use Rattle.nz_watch.specs.Watching.{Pair}
 use Rattle.nz_watch.specs.Telling.{Watched, WasTold, HasPassed, HasPassedAll, HasStopped}
 use Rattle.nz_measures.specs.Crowds.{IsPrimalCrowdAbove}
-use Rattle.nz_measures.specs.Reaches.{IsPrimalReachAbove}
-use Rattle.nz_input.specs.declared.kind.Mode.TheVariants.{Primal}
+use Rattle.nz_measures.specs.Reaches.{IsPrimalReachAbove, IsDualReachAbove}
+use Rattle.nz_input.specs.declared.kind.Mode.{Mode}
+use Rattle.nz_input.specs.declared.kind.Mode.TheVariants.{Primal, Dual}
 use Rattle.nz_system.specs.Meaning.{SystemData}
 use Rattle.nz_blocks.specs.Outcomes.{OutcomeData}
+use Rattle.nz_frame.specs.Elements.{IsGraded}
+use Rattle.nz_frame.specs.DualCrowds.{IsDualCrowd}
+use Rattle.nz_solve.specs.Replies.{IsWhere, AreWhere, AreAnswered}
 use Rattle.nz_solve.specs.declared.refusal.SolveRefusal.{SolveRefusal}
-use Rattle.nz_solve.specs.declared.refusal.SolveRefusal.TheVariants.{Line, Range, TooMany, Stopped, NoMemory}
+use Rattle.nz_solve.specs.declared.refusal.SolveRefusal.TheVariants.{Line, Grade, Range, TooMany, Stopped, NoMemory}
 
--- no level, no grading, no asked vectors, and the primal algorithm
-pub record IsPlain (s : SystemData) : Type 0 where
-  pub no_level : s.system.level ≡ false
-  pub no_grading : s.system.grading ≡ None
-  pub no_asked : s.system.asked ≡ None
-  pub primal : s.mode ≡ Primal
+-- the Hilbert basis is wanted where its goal is on, or vectors are asked
+abbrev pub wants_basis : SystemData → Bool
+wants_basis s = s.goals.hilbert || is_some s.system.asked
 
--- where it is wanted there is a value, which has P, and else there is none
-abbrev pub IsWhere : {A : Type 0} → Bool → (A → Type 0) → Option A → Type 0
-IsWhere true P (Some x) = P x
-IsWhere true P None = ⊥
-IsWhere false P o = o ≡ None
+-- the module generators where there is a level, and one of the goals is on or vectors are asked
+abbrev pub wants_modules : SystemData → Bool
+wants_modules s = s.system.level && (s.goals.modules || wants_basis s)
 
--- the same of two values that go together
-abbrev pub AreWhere : {A B : Type 0} → Bool → (A → B → Type 0) → Option A → Option B → Type 0
-AreWhere true P (Some x) (Some y) = P x y
-AreWhere true P (Some x) None = ⊥
-AreWhere true P None o = ⊥
-AreWhere false P o p = (o ≡ None) × (p ≡ None)
+-- the vertices where there is a level
+abbrev pub wants_vertices : SystemData → Bool
+wants_vertices s = s.goals.rays && s.system.level
 
--- there is no line; what is wanted is there, and nothing else: the Hilbert basis, the extreme rays, the support forms and equations of the extreme generators, and a good cover of these
+-- there is no line, and no degree of 0 or less; what is wanted is there, and nothing else
 pub record IsSolution (s : SystemData) (o : OutcomeData) : Type 0 where
   pub positive : IsPositive (IsMember s.system)
-  pub amb : o.amb ≡ s.system.width
+  pub graded : IsGraded s.system
+  pub amb : o.amb ≡ file_width s.system
   pub level : o.level ≡ s.system.level
-  pub hilbert : IsWhere s.goals.hilbert (IsHilbertBasis s.system) o.hilbert
+  pub modules : IsWhere (wants_modules s) (AreModuleGenerators s.system) o.modules
+  pub hilbert : IsWhere (wants_basis s) (IsHilbertBasis s.system) o.hilbert
+  pub degree_one : IsWhere s.goals.degree_one (AreDegreeOne s.system (pos 1)) o.degree_one
+  pub vertices : IsWhere (wants_vertices s) (AreVertices s.system) o.vertices
   pub rays : IsWhere s.goals.rays (AreRays s.system) o.rays
   pub description : AreWhere s.goals.hyperplanes (IsSupportDescription s.system) o.support o.equations
   pub cover : AreWhere s.goals.cover (IsCoverOf s.system) o.generators o.simplices
-  pub no_modules : o.modules ≡ None
-  pub no_degree_one : o.degree_one ≡ None
-  pub no_vertices : o.vertices ≡ None
-  pub no_asked : o.asked ≡ None
+  pub asked : AreAnswered s.system s.system.asked o.asked
 
--- the pairs that a watch is told of the system
-abbrev pub AreToldOf : System → List Pair → Type 0
-AreToldOf s pairs = AreTold ArePrimalStages s pairs
+-- the stages of the mode
+abbrev pub AreStagesOf : Mode → System → List Pair → Type 0
+AreStagesOf Primal s pairs = ArePrimalStages s pairs
+AreStagesOf Dual s pairs = AreDualStages s pairs
+
+-- the pairs that a watch is told of the system in this mode
+abbrev pub AreToldOf : Mode → System → List Pair → Type 0
+AreToldOf mode s pairs = AreTold (AreStagesOf mode) s pairs
 
 -- the watch was told nothing yet, or some first stages, and no stop came
-abbrev pub WasToldSome : System → Watched → Watched → Type 0
-WasToldSome s before now = WasTold before now [] false ⊎ ((passed : ℕ) × HasPassed (AreToldOf s) 0 passed before now false)
+abbrev pub WasToldSome : Mode → System → Watched → Watched → Type 0
+WasToldSome mode s before now = WasTold before now [] false ⊎ ((passed : ℕ) × HasPassed (AreToldOf mode s) 0 passed before now false)
 
--- there is no line, and the crowd of the primal algorithm is above the limit: more vectors are extreme generators, or members in the box of independent ones
-abbrev pub IsCrowd : System → ℕ → Type 0
-IsCrowd s limit = IsPositive (IsMember s) × IsPrimalCrowdAbove s limit
-
--- the irreducible elements are no more than the limit
-pub record IsWithin (s : System) (limit : ℕ) : Type 0 where
-  pub list : List Vector
-  pub basis : IsHilbertBasis s list
-  pub size : length list ≤ limit
+-- there is no line, and there are more vectors than the limit. In primal mode: the crowd of the primal algorithm, and the watch was told all stages. In dual mode: what the first stage has to hold, or a stage or a reversed stage, and the watch was told the stages before it.
+abbrev pub IsCrowd : Mode → System → ℕ → Watched → Watched → Type 0
+IsCrowd Primal s limit before now = IsPositive (IsMember s) × IsPrimalCrowdAbove s limit × HasPassedAll (AreToldOf Primal s) 0 before now
+IsCrowd Dual s limit before now = (passed : ℕ) × IsDualCrowd s limit passed × HasPassed (AreToldOf Dual s) 0 passed before now false
 
 -- the size up to which two numbers of a run can be multiplied, and two such products added
 abbrev pub half : ℤ
 half = pos (2 ^ 62)
 
--- why there is no outcome, and what the watch was told: Range only where a number that the run is known to form is above the half
-abbrev pub IsSolveRefusal : System → (limit : ℕ) → (before now : Watched) → SolveRefusal → Type 0
-IsSolveRefusal s limit before now (Line v) = IsLeastLine (IsMember s) v × WasTold before now [] false
-IsSolveRefusal s limit before now Range = IsPrimalReachAbove s half × WasToldSome s before now
-IsSolveRefusal s limit before now TooMany = IsCrowd s limit × HasPassedAll (AreToldOf s) 0 before now
-IsSolveRefusal s limit before now (Stopped stage) = HasStopped (AreToldOf s) 0 stage before now
-IsSolveRefusal s limit before now NoMemory = WasToldSome s before now
+-- a number that a run of the mode is known to form is above n
+abbrev pub IsReachAbove : Mode → System → ℤ → Type 0
+IsReachAbove Primal s n = IsPrimalReachAbove s n
+IsReachAbove Dual s n = IsDualReachAbove s n
+
+-- why there is no outcome, and what the watch was told
+abbrev pub IsSolveRefusal : Mode → System → (limit : ℕ) → (before now : Watched) → SolveRefusal → Type 0
+IsSolveRefusal mode s limit before now (Line v) = IsLeastLine (IsMember s) v × WasTold before now [] false
+IsSolveRefusal mode s limit before now (Grade x) = IsPositive (IsMember s) × IsFirstNotPositive s x × HasPassedAll (AreToldOf mode s) 0 before now
+IsSolveRefusal mode s limit before now Range = IsReachAbove mode s half × WasToldSome mode s before now
+IsSolveRefusal mode s limit before now TooMany = IsCrowd mode s limit before now
+IsSolveRefusal mode s limit before now (Stopped stage) = HasStopped (AreToldOf mode s) 0 stage before now
+IsSolveRefusal mode s limit before now NoMemory = WasToldSome mode s before now

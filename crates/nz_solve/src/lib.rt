@@ -1,15 +1,21 @@
-//! Solving a system: its irreducible elements, its extreme generators, their support forms and a cover by simplices.
-//! Its contract: `solve` answers exactly what the goals ask of the system, or a line of it exactly if it has one.
-//! Below it stand the coordinates of `nz_frame`, the primal run of `nz_primal` and the facets of `nz_facets`.
+//! Solving a system: its irreducible elements by level and degree, its extreme rays, their support forms, a cover by simplices, and the replies to asked vectors.
+//! Its contract: `solve` answers exactly what the goals ask of any system, in both modes, or why there is no answer; `modes_agree` says that both modes give one outcome.
+//! Below it stand the coordinates and constraints of `nz_frame`, the algorithms of `nz_primal` and `nz_dual`, the levels and degrees of `nz_degree`, and the replies of `nz_member`.
 //! `nz_run` calls it between the meaning of a file and the output text.
 //! Start reading at `specs/Solutions.antt`, then `solve`.
 #![tactic(auto)]
 
-mod choosing;
+mod by_dual;
+mod by_primal;
+mod elements;
+mod laws;
 mod lines;
+mod lists;
+mod outcomes;
 mod refusal;
-mod returning;
+mod replies;
 mod solving;
 
+pub use laws::modes_agree;
 pub use refusal::SolveRefusal;
 pub use solving::solve;

@@ -8,6 +8,8 @@ pub enum SolveRefusal {
     /// The members have a line: this vector and its opposite are members. It is no multiple of a
     /// shorter member, and its first nonzero entry is positive.
     Line(Ints),
+    /// The first element of the Hilbert basis, whose degree is 0 or less.
+    Grade(Ints),
     /// A number is no value of the type: one that the run is known to form is above `HALF`.
     Range,
     /// More vectors would have to be held than the limit allows.

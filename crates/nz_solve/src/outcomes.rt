@@ -1,0 +1,256 @@
+// The outcome of a system: of its elements what the goals ask.
+ghost use Rattle.std.specs.Prelude.{◌≡◌, ◌≢◌, ◌^◌, ◌≤◌, pos, length, IsTrue, IfOk, IfErr, IfSome, MatchResult};
+ghost use Rattle.nz_pointed.specs.Pointed.{IsTooLarge};
+ghost use Rattle.std.specs.List.{AllByRecursion as Each};
+ghost use Rattle.nz_spec.specs.Vectors.{HasWidth};
+ghost use Rattle.nz_spec.specs.Forms.{IsDescription};
+ghost use Rattle.nz_degree.specs.Levels.{HasEntry};
+ghost use Rattle.nz_system.specs.Meaning.{there};
+ghost use Rattle.nz_solve.specs.Replies.{AreWhere};
+ghost use Rattle.nz_solve.specs.Solutions.{IsSolution, wants_basis, wants_modules};
+ghost use Rattle.nz_solve.specs.Parts.{AreElements, AreOnes, AreParted, LacksSomeDegree, IsShownCause, IsOutcomeRefusal, wants_description, amb_at, kept_where};
+
+use crate::elements::Elements;
+use crate::lists::element_lists;
+use crate::refusal::{SolveRefusal, unreckoned};
+use crate::replies::answer_asked;
+use nz_blocks::Outcome;
+use nz_degree::{degree_one, split_extreme};
+use nz_facets::describe;
+use nz_system::System;
+use nz_vec::{NoMemory, Num, PlaceLists, Row, Rows, Scalar};
+use std::alloc::Global;
+
+/// The outcome of the system with these elements, or the first of its Hilbert basis where its degree is
+/// 0 or less.
+pub(crate) fn outcome(
+    alloc: Global,
+    system: &System,
+    elements: Elements<i128>,
+) -> Result<Outcome, SolveRefusal>
+    requires { AreElements system.now elements.list elements.extreme elements.simplices }
+    ensures { MatchResult result (IsSolution system.now) (IsOutcomeRefusal system.now.system) }
+{
+    system.kept();
+    let Elements {
+        list,
+        extreme,
+        simplices,
+    } = elements;
+    let lists = match element_lists(alloc, system, list) {
+        Ok(lists) => lists,
+        Err(refusal) => return Err(refusal),
+    };
+    let asked = match answer_asked(alloc, system, &lists) {
+        Ok(asked) => asked,
+        Err(refusal) => return Err(unreckoned(refusal)),
+    };
+    let shown = match shown_of(alloc, system, &extreme, &lists.hilbert) {
+        Ok(shown) => shown,
+        Err(refusal) => return Err(unreckoned(refusal)),
+    };
+    Ok(Outcome {
+        amb: amb_of(system.width, system.level),
+        level: system.level,
+        modules: kept_where(wants_modules(system), lists.modules),
+        hilbert: rows_where(wants_basis(system), lists.hilbert),
+        degree_one: shown.degree_one,
+        vertices: shown.vertices,
+        rays: shown.rays,
+        support: shown.support,
+        equations: shown.equations,
+        generators: rows_where(system.goals.cover, extreme),
+        simplices: simplices_where(system.goals.cover, simplices),
+        asked,
+    })
+}
+
+// The number of entries of a vector of the file: one less than the width where there is a level.
+fn amb_of(width: u32, level: bool) -> u32
+    requires { IsTrue level → 1 ≤ width }
+    ensures { result ≡ amb_at level width }
+{
+    if level { width - 1 } else { width }
+}
+
+// Whether the Hilbert basis is wanted: by its goal, or for the asked vectors.
+fn wants_basis(system: &System) -> bool
+    ensures { result ≡ wants_basis system.now }
+{
+    if system.goals.hilbert {
+        return true;
+    }
+    match &system.asked {
+        Some(_) => true,
+        None => false,
+    }
+}
+
+// Whether the module generators are wanted: with a level, by their goal or with the Hilbert basis.
+fn wants_modules(system: &System) -> bool
+    ensures { result ≡ wants_modules system.now }
+{
+    if !system.level {
+        return false;
+    }
+    if system.goals.modules {
+        return true;
+    }
+    wants_basis(system)
+}
+
+// What is shown beside the lists of the irreducible elements.
+#[derive(Drop)]
+struct Shown<T: Scalar> {
+    degree_one: Option<Rows<T>>,
+    vertices: Option<Rows<T>>,
+    rays: Option<Rows<T>>,
+    support: Option<Rows<T>>,
+    equations: Option<Rows<T>>,
+}
+
+fn shown_of(
+    alloc: Global,
+    system: &System,
+    extreme: &Rows<i128>,
+    hilbert: &Rows<i128>,
+) -> Result<Shown<i128>, Num>
+    requires extreme { IsTrue (wants_description system.now) → Each (HasWidth system.now.system.width) extreme.now }
+    requires hilbert { Each (HasWidth system.now.system.width) hilbert.now }
+    ensures degree_one { IfOk result (λ s. AreOnes system.now.goals.degree_one system.now.system.grading hilbert.now s.degree_one) }
+    ensures parted { IfOk result (λ s. AreParted system.now.goals.rays system.now.system.level extreme.now s.vertices s.rays) }
+    ensures described { IfOk result (λ s. AreWhere system.now.goals.hyperplanes (IsDescription system.now.system.width extreme.now) s.support s.equations) }
+    ensures cause { IfErr result (λ e. e ≡ Num.Range → IsShownCause system.now extreme.now hilbert.now) }
+{
+    system.kept();
+    let goals = system.goals;
+    let degree_one = match ones_of(alloc, goals.degree_one, &system.grading, hilbert) {
+        Ok(degree_one) => degree_one,
+        Err(refusal) => return Err(refusal),
+    };
+    let parted = match part_extreme(alloc, goals.rays, system.level, extreme) {
+        Ok(parted) => parted,
+        Err(refusal) => return Err(Num::from(refusal)),
+    };
+    let width = system.width as usize;
+    match description_of(alloc, goals.hyperplanes, width, extreme) {
+        Ok(described) => Ok(Shown {
+            degree_one,
+            vertices: parted.vertices,
+            rays: parted.rays,
+            support: described.support,
+            equations: described.equations,
+        }),
+        Err(refusal) => Err(refusal),
+    }
+}
+
+// The elements of degree 1, where they are wanted.
+fn ones_of<T: Scalar>(
+    alloc: Global,
+    wanted: bool,
+    grading: &Option<Row<T>>,
+    hilbert: &Rows<T>,
+) -> Result<Option<Rows<T>>, Num>
+    requires { IfSome grading.now (λ g. Each (HasWidth (length g)) hilbert.now) }
+    ensures ones { IfOk result (AreOnes wanted grading.now hilbert.now) }
+    ensures cause { IfErr result (λ e. e ≡ Num.Range → LacksSomeDegree T.fits grading.now hilbert.now) }
+{
+    if !wanted {
+        return Ok(None);
+    }
+    let grading = match grading {
+        Some(grading) => grading,
+        None => return Ok(None),
+    };
+    match degree_one(alloc, grading, hilbert) {
+        Ok(ones) => Ok(Some(ones)),
+        Err(refusal) => Err(refusal),
+    }
+}
+
+// The vertices and the extreme rays, where they are wanted.
+#[derive(Drop)]
+struct Parted<T: Scalar> {
+    vertices: Option<Rows<T>>,
+    rays: Option<Rows<T>>,
+}
+
+fn part_extreme<T: Scalar>(
+    alloc: Global,
+    wanted: bool,
+    level: bool,
+    extreme: &Rows<T>,
+) -> Result<Parted<T>, NoMemory>
+    requires { IsTrue wanted → IsTrue level → Each HasEntry extreme.now }
+    ensures { IfOk result (λ p. AreParted wanted level extreme.now p.vertices p.rays) }
+{
+    if !wanted {
+        return Ok(Parted {
+            vertices: None,
+            rays: None,
+        });
+    }
+    if !level {
+        let rays = Some(extreme.try_copy()?);
+        return Ok(Parted {
+            vertices: None,
+            rays,
+        });
+    }
+    let levels = split_extreme(alloc, extreme)?;
+    Ok(Parted {
+        vertices: Some(levels.vertices),
+        rays: Some(levels.rays),
+    })
+}
+
+// The support forms and the equations, where they are wanted.
+#[derive(Drop)]
+struct Described<T: Scalar> {
+    support: Option<Rows<T>>,
+    equations: Option<Rows<T>>,
+}
+
+fn description_of<T: Scalar>(
+    alloc: Global,
+    wanted: bool,
+    width: usize,
+    gens: &Rows<T>,
+) -> Result<Described<T>, Num>
+    requires { IsTrue wanted → Each (HasWidth width) gens.now }
+    ensures described { IfOk result (λ d. AreWhere wanted (IsDescription width gens.now) d.support d.equations) }
+    ensures cause { IfErr result (λ e. e ≡ Num.Range → IsTrue wanted × IsTooLarge T.HALF width gens.now) }
+{
+    if !wanted {
+        return Ok(Described {
+            support: None,
+            equations: None,
+        });
+    }
+    match describe(alloc, width, gens) {
+        Ok(description) => Ok(Described {
+            support: Some(description.support),
+            equations: Some(description.equations),
+        }),
+        Err(refusal) => Err(refusal),
+    }
+}
+
+fn rows_where<T: Scalar>(wanted: bool, rows: Rows<T>) -> Option<Rows<T>>
+    ensures { result ≡ there wanted rows }
+{
+    if wanted { Some(rows) } else { None }
+}
+
+fn kept_where<T: Scalar>(wanted: bool, rows: Option<Rows<T>>) -> Option<Rows<T>>
+    ensures { result ≡ kept_where wanted rows }
+{
+    if wanted { rows } else { None }
+}
+
+fn simplices_where(wanted: bool, simplices: PlaceLists) -> Option<PlaceLists>
+    ensures { result ≡ there wanted simplices }
+{
+    if wanted { Some(simplices) } else { None }
+}
