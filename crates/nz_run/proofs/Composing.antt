@@ -9,13 +9,15 @@ use Rattle.nz_watch.specs.Watching.{Pair}
 use Rattle.nz_watch.specs.Telling.{Watched, HasPassedAll}
 use Rattle.nz_watch.proofs.TellingLemmas.{none_told}
 use Rattle.nz_input.specs.Files.{FileData}
-use Rattle.nz_system.specs.Meaning.{system_of}
-use Rattle.nz_solve.specs.Solutions.{WasToldSome}
+use Rattle.nz_system.specs.Meaning.{system_of, meaning}
+use Rattle.nz_input.specs.declared.kind.Mode.{Mode}
+use Rattle.nz_input.specs.declared.kind.Mode.TheVariants.{Primal, Dual}
+use Rattle.nz_solve.specs.Solutions.{IsCrowd, WasToldSome}
 use Rattle.nz_edge.specs.Answers.{OnTold, LoadGives, StoreLeaves, PutAll}
 use Rattle.nz_edge.specs.declared.folder.Load.TheVariants as load
 use Rattle.nz_edge.specs.declared.folder.Stored.TheVariants as stored
 use Rattle.nz_run.specs.declared.status.Status.{Status}
-use Rattle.nz_run.specs.declared.status.Status.TheVariants.{Done, Usage, Absent, ReadFault, TooLong, Grammar, Meaning, NotBuilt, Line, Range, TooMany, Stopped, WriteFault, NoMemory}
+use Rattle.nz_run.specs.declared.status.Status.TheVariants.{Done, Usage, Absent, ReadFault, TooLong, Grammar, Meaning, Line, Grade, Range, TooMany, Stopped, WriteFault, NoMemory}
 use Rattle.nz_input.specs.declared.kind.Goal.{Goal}
 use Rattle.nz_words.specs.Orders.{OrderData, IsOrder, input_name}
 use Rattle.nz_run.specs.Statuses.{status_line}
@@ -50,8 +52,8 @@ explains project goals limit w w' input f f' ReadFault a b c h i s = absurd s.0
 explains project goals limit w w' input f f' TooLong a b c h i s = (input, i, (s.0, same_trans a b c h s.1))
 explains project goals limit w w' input f f' (Grammar l k g) a b c h i s = (input, i, (s.0, same_trans a b c h s.1))
 explains project goals limit w w' input f f' (Meaning l k g) a b c h i s = (input, i, (s.0, same_trans a b c h s.1))
-explains project goals limit w w' input f f' (NotBuilt v) a b c h i s = (input, i, (s.0, same_trans a b c h s.1))
 explains project goals limit w w' input f f' (Line v) a b c h i s = (input, i, (s.0, same_trans a b c h s.1))
+explains project goals limit w w' input f f' (Grade v) a b c h i s = (input, i, (s.0, same_trans a b c h s.1))
 explains project goals limit w w' input f f' Range a b c h i s = (input, i, (s.0, same_trans a b c h s.1))
 explains project goals limit w w' input f f' TooMany a b c h i s = (input, i, (s.0, same_trans a b c h s.1))
 explains project goals limit w w' input f f' (Stopped k) a b c h i s = (input, i, (s.0, same_trans a b c h s.1))
@@ -97,8 +99,8 @@ refused_before goals limit w w' name input r o n h e = subst (λ (m : Option Fil
     same TooLong h a = (h, λ t. refl)
     same (Grammar l k g) h a = (h, λ t. refl)
     same (Meaning l k g) h a = (h, λ t. refl)
-    same (NotBuilt v) h a = (h, λ t. refl)
     same (Line v) h a = (h, λ t. refl)
+    same (Grade v) h a = (h, λ t. refl)
     same Range h a = (h, λ t. refl)
     same TooMany h a = (h, λ t. refl)
     same (Stopped k) h a = (h, λ t. refl)
@@ -129,8 +131,12 @@ stored_not goals limit w w' name input output bytes o n s h = told_weaker o n (�
 all_pairs : {Stages : List Pair → Type 0} (w w' : Watched) → HasPassedAll Stages 0 w w' → WasToldPairs false w w'
 all_pairs w w' h = (_, h.telling.was_told)
 
-some_pairs : (w w' : Watched) (file : FileData) → WasToldSome (system_of file) w w' → WasToldPairs false w w'
-some_pairs w w' file h = elim h [ inl n ↦ ([], n) | inr k ↦ (_, k.1.was_told) ]
+some_pairs : (mode : Mode) (w w' : Watched) (file : FileData) → WasToldSome mode (system_of file) w w' → WasToldPairs false w w'
+some_pairs mode w w' file h = elim h [ inl n ↦ ([], n) | inr k ↦ (_, k.1.was_told) ]
+
+crowd_pairs : (mode : Mode) (w w' : Watched) (file : FileData) (limit : ℕ) → IsCrowd mode (system_of file) limit w w' → WasToldPairs false w w'
+crowd_pairs Primal w w' file limit h = all_pairs w w' h.2
+crowd_pairs Dual w w' file limit h = (_, h.2.was_told)
 
 pub says_refused : (goals : List Goal) (limit : ℕ) (w w' : Watched) (input : Text) (r : Status) → IsCause goals limit w w' input r → WatchSays r w w'
 says_refused goals limit w w' input Done h = absurd h
@@ -140,15 +146,15 @@ says_refused goals limit w w' input ReadFault h = absurd h
 says_refused goals limit w w' input TooLong h = h.1
 says_refused goals limit w w' input (Grammar l k g) h = h.2
 says_refused goals limit w w' input (Meaning l k g) h = h.cause.1
-says_refused goals limit w w' input (NotBuilt v) h = h.cause.2
 says_refused goals limit w w' input (Line v) h = h.cause.refused.1
-says_refused goals limit w w' input Range h = some_pairs w w' h.file h.cause.refused.1
-says_refused goals limit w w' input TooMany h = all_pairs w w' h.cause.refused.1
+says_refused goals limit w w' input (Grade v) h = all_pairs w w' h.cause.refused.2
+says_refused goals limit w w' input Range h = some_pairs (meaning h.file goals).mode w w' h.file h.cause.refused.1
+says_refused goals limit w w' input TooMany h = crowd_pairs (meaning h.file goals).mode w w' h.file limit h.cause.refused
 says_refused goals limit w w' input (Stopped k) h = (_, h.cause.refused.telling.was_told)
 says_refused goals limit w w' input WriteFault h = absurd h
 says_refused goals limit w w' input NoMemory h = elim h [
   | inl n ↦ ([], n)
-  | inr k ↦ elim k.cause [ inl n ↦ ([], n) | inr u ↦ some_pairs w w' k.file u.refused ]
+  | inr k ↦ elim k.cause [ inl n ↦ ([], n) | inr u ↦ some_pairs (meaning k.file goals).mode w w' k.file u.refused ]
 ]
 
 pub says_solved : (goals : List Goal) (limit : ℕ) (w w' : Watched) (input output : Text) → IsSolved goals limit w w' input output → WasToldPairs false w w'
@@ -162,8 +168,8 @@ refused_count goals limit w w' input ReadFault a b h = h
 refused_count goals limit w w' input TooLong a b h = tt
 refused_count goals limit w w' input (Grammar l k g) a b h = tt
 refused_count goals limit w w' input (Meaning l k g) a b h = tt
-refused_count goals limit w w' input (NotBuilt v) a b h = tt
 refused_count goals limit w w' input (Line v) a b h = tt
+refused_count goals limit w w' input (Grade v) a b h = tt
 refused_count goals limit w w' input Range a b h = tt
 refused_count goals limit w w' input TooMany a b h = tt
 refused_count goals limit w w' input (Stopped k) a b h = tt
@@ -178,8 +184,8 @@ count_of_store ReadFault f f' m m' s s' t t' d e h = absurd h
 count_of_store TooLong f f' m m' s s' t t' d e h = tt
 count_of_store (Grammar l k g) f f' m m' s s' t t' d e h = tt
 count_of_store (Meaning l k g) f f' m m' s s' t t' d e h = tt
-count_of_store (NotBuilt v) f f' m m' s s' t t' d e h = tt
 count_of_store (Line v) f f' m m' s s' t t' d e h = tt
+count_of_store (Grade v) f f' m m' s s' t t' d e h = tt
 count_of_store Range f f' m m' s s' t t' d e h = tt
 count_of_store TooMany f f' m m' s s' t t' d e h = tt
 count_of_store (Stopped k) f f' m m' s s' t t' d e h = tt
@@ -200,8 +206,8 @@ explains_words words order project w w' f f' r o n d e u h = told_weaker o n (Ex
     go TooLong u a b h = (order, d, h)
     go (Grammar l k g) u a b h = (order, d, h)
     go (Meaning l k g) u a b h = (order, d, h)
-    go (NotBuilt v) u a b h = (order, d, h)
     go (Line v) u a b h = (order, d, h)
+    go (Grade v) u a b h = (order, d, h)
     go Range u a b h = (order, d, h)
     go TooMany u a b h = (order, d, h)
     go (Stopped k) u a b h = (order, d, h)

@@ -1,5 +1,4 @@
 pub mod Composing
 pub mod Pieces
-pub mod Firsts
-pub mod BuiltSystems
 pub mod Answering
+mod ModeTexts

@@ -1,4 +1,4 @@
 pub mod FileSystems
-pub mod Built
 pub mod Statuses
 pub mod Runs
+pub mod Laws

@@ -13,15 +13,15 @@ use Rattle.nz_edge.specs.Folders.{Files, SameFiles, SameOthers, Stores}
 use Rattle.nz_watch.specs.Counts.{IsQuiet, Rose}
 use Rattle.nz_watch.specs.Watching.{Pair}
 use Rattle.nz_watch.specs.Telling.{Watched, WasTold, HasPassedAll}
-use Rattle.nz_solve.specs.Solutions.{IsSolution, IsWithin, AreToldOf, IsSolveRefusal}
+use Rattle.nz_frame.specs.Elements.{IsWithin}
+use Rattle.nz_solve.specs.Solutions.{IsSolution, AreToldOf, IsSolveRefusal}
 use Rattle.nz_solve.specs.declared.refusal.SolveRefusal.{SolveRefusal}
 use Rattle.nz_solve.specs.declared.refusal.SolveRefusal.TheVariants as solve
 use Rattle.nz_words.specs.Orders.{OrderData, IsOrder, AreRefused, input_name}
 use Rattle.nz_run.specs.FileSystems.{HasMeaning}
-use Rattle.nz_run.specs.Built.{IsBuilt, IsFirstUnbuilt}
 use Rattle.nz_run.specs.Statuses.{status_line}
 use Rattle.nz_run.specs.declared.status.Status.{Status}
-use Rattle.nz_run.specs.declared.status.Status.TheVariants.{Done, Usage, Absent, ReadFault, TooLong, Grammar, Meaning, NotBuilt, Line, Range, TooMany, Stopped, WriteFault, NoMemory}
+use Rattle.nz_run.specs.declared.status.Status.TheVariants.{Done, Usage, Absent, ReadFault, TooLong, Grammar, Meaning, Line, Grade, Range, TooMany, Stopped, WriteFault, NoMemory}
 
 -- the file that is stored
 abbrev pub output_name : Text → Text
@@ -41,11 +41,6 @@ pub record IsInput (project : Text) (files : Files) (input : Text) : Type 0 wher
 abbrev pub IsShort : Text → Type 0
 IsShort input = length input ≤ most
 
--- the file breaks no rule of meaning and everything of it is built, with these goals of the words
-pub record IsReady (goals : List Goal) (file : FileData) : Type 0 where
-  pub meaning : HasMeaning file goals
-  pub built : IsBuilt file goals
-
 -- ---- what a watch is told
 
 -- the watch was told nothing
@@ -59,6 +54,7 @@ WasToldPairs stopped before now = (pairs : List Pair) × WasTold before now pair
 -- a run ends with Stopped just where its watch says stop; no stage is told before the meaning of the file is clear, nor where there is a line
 abbrev pub WatchSays : Status → Watched → Watched → Type 0
 WatchSays Done before now = WasToldPairs false before now
+WatchSays (Grade v) before now = WasToldPairs false before now
 WatchSays Range before now = WasToldPairs false before now
 WatchSays TooMany before now = WasToldPairs false before now
 WatchSays (Stopped k) before now = WasToldPairs true before now
@@ -68,18 +64,18 @@ WatchSays status before now = WasToldNothing before now
 
 -- ---- what is answered of a file
 
--- the output is the text of exactly what is asked of the system: at its head the irreducible elements, each once, in order; these are no more than the limit
+-- the output is the text of exactly what is asked of the system, which has no line and no degree of 0 or less; its irreducible elements are no more than the limit
 pub record IsAnswered (s : SystemData) (limit : ℕ) (output : Text) : Type 0 where
   pub outcome : OutcomeData
   pub solution : IsSolution s outcome
   pub within : IsWithin s.system limit
   pub same : output ≡ text_of outcome
 
--- the output answers what file and words ask, and the watch was told all stages of the file's system
+-- the output answers what file and words ask, and the watch was told all stages of the file's system, in the mode of file and words
 pub record IsFileSolved (goals : List Goal) (limit : ℕ) (before now : Watched) (file : FileData) (output : Text) : Type 0 where
-  pub ready : IsReady goals file
+  pub ready : HasMeaning file goals
   pub answered : IsAnswered (meaning file goals) limit output
-  pub told : HasPassedAll (AreToldOf (system_of file)) 0 before now
+  pub told : HasPassedAll (AreToldOf (meaning file goals).mode (system_of file)) 0 before now
 
 -- the input is a text of a file, and the output answers what it and the words ask
 pub record IsSolved (goals : List Goal) (limit : ℕ) (before now : Watched) (input output : Text) : Type 0 where
@@ -88,14 +84,15 @@ pub record IsSolved (goals : List Goal) (limit : ℕ) (before now : Watched) (in
   pub read : IsTextOf input file
   pub solved : IsFileSolved goals limit before now file output
 
--- the system of the file, of which everything is built, is refused, with what the watch was told
+-- the file breaks no rule of meaning, and its system is refused, with what the watch was told
 pub record IsUnsolved (goals : List Goal) (limit : ℕ) (before now : Watched) (file : FileData) (r : SolveRefusal) : Type 0 where
-  pub ready : IsReady goals file
-  pub refused : IsSolveRefusal (system_of file) limit before now r
+  pub ready : HasMeaning file goals
+  pub refused : IsSolveRefusal (meaning file goals).mode (system_of file) limit before now r
 
 -- the status of a refusal
 abbrev pub status_of : SolveRefusal → Status
 status_of (solve.Line v) = Line v
+status_of (solve.Grade v) = Grade v
 status_of solve.Range = Range
 status_of solve.TooMany = TooMany
 status_of (solve.Stopped k) = Stopped k
@@ -104,8 +101,8 @@ status_of solve.NoMemory = NoMemory
 -- the file is the cause of the status, where the words name these goals; memory may run out before a stage was told, or among the stages
 abbrev pub IsCauseIn : List Goal → (limit : ℕ) → (before now : Watched) → FileData → Status → Type 0
 IsCauseIn goals limit before now file (Meaning i r f) = IsMeaning file goals (Err (refusal.Meaning i r f)) × WasToldNothing before now
-IsCauseIn goals limit before now file (NotBuilt word) = HasMeaning file goals × IsFirstUnbuilt file goals word × WasToldNothing before now
 IsCauseIn goals limit before now file (Line v) = IsUnsolved goals limit before now file (solve.Line v)
+IsCauseIn goals limit before now file (Grade v) = IsUnsolved goals limit before now file (solve.Grade v)
 IsCauseIn goals limit before now file Range = IsUnsolved goals limit before now file solve.Range
 IsCauseIn goals limit before now file TooMany = IsUnsolved goals limit before now file solve.TooMany
 IsCauseIn goals limit before now file (Stopped k) = IsUnsolved goals limit before now file (solve.Stopped k)
@@ -124,8 +121,8 @@ abbrev pub IsCause : List Goal → (limit : ℕ) → (before now : Watched) → 
 IsCause goals limit before now input TooLong = (most < length input) × WasToldNothing before now
 IsCause goals limit before now input (Grammar l c f) = IsShort input × IsRefusedAt input l c f × WasToldNothing before now
 IsCause goals limit before now input (Meaning i r f) = IsReadCause goals limit before now input (Meaning i r f)
-IsCause goals limit before now input (NotBuilt word) = IsReadCause goals limit before now input (NotBuilt word)
 IsCause goals limit before now input (Line v) = IsReadCause goals limit before now input (Line v)
+IsCause goals limit before now input (Grade v) = IsReadCause goals limit before now input (Grade v)
 IsCause goals limit before now input Range = IsReadCause goals limit before now input Range
 IsCause goals limit before now input TooMany = IsReadCause goals limit before now input TooMany
 IsCause goals limit before now input (Stopped k) = IsReadCause goals limit before now input (Stopped k)

@@ -6,14 +6,11 @@ use Rattle.nz_vec.specs.Texts.{Text}
 use Rattle.nz_spec.specs.Vectors.{Vector}
 use Rattle.nz_input.specs.declared.refusal.Fault.{Fault}
 use Rattle.nz_input.specs.declared.refusal.Fault.TheVariants as fault
-use Rattle.nz_input.specs.Words.{keyword, goal_word}
 use Rattle.nz_system.specs.declared.refusal.MeaningFault.{MeaningFault}
 use Rattle.nz_system.specs.declared.refusal.MeaningFault.TheVariants as rule
 use Rattle.nz_blocks.specs.Lines.{line}
-use Rattle.nz_run.specs.declared.built.Keyword.{Keyword}
-use Rattle.nz_run.specs.declared.built.Keyword.TheVariants as word
 use Rattle.nz_run.specs.declared.status.Status.{Status}
-use Rattle.nz_run.specs.declared.status.Status.TheVariants.{Done, Usage, Absent, ReadFault, TooLong, Grammar, Meaning, NotBuilt, Line, Range, TooMany, Stopped, WriteFault, NoMemory}
+use Rattle.nz_run.specs.declared.status.Status.TheVariants.{Done, Usage, Absent, ReadFault, TooLong, Grammar, Meaning, Line, Grade, Range, TooMany, Stopped, WriteFault, NoMemory}
 
 -- the exit status of the program
 abbrev pub code_of : Status → ℕ
@@ -25,12 +22,12 @@ code_of TooLong = 5
 code_of (Grammar l c f) = 6
 code_of (Meaning i r f) = 7
 code_of (Line v) = 8
+code_of (Grade v) = 9
 code_of Range = 10
 code_of TooMany = 11
 code_of (Stopped k) = 12
 code_of WriteFault = 13
 code_of NoMemory = 14
-code_of (NotBuilt w) = 15
 
 -- the name of a fault
 abbrev pub fault_name : Fault → Text
@@ -54,11 +51,6 @@ rule_name rule.Mixed = codes "Mixed"
 rule_name rule.NoGrading = codes "NoGrading"
 rule_name rule.NoLevel = codes "NoLevel"
 
--- the keyword or goal word
-abbrev pub word_of : Keyword → Text
-word_of (word.Item kind) = keyword kind
-word_of (word.Goal goal) = goal_word goal
-
 -- two labels, each with its number, and what is wrong there
 abbrev pub place_line : Text → ℕ → Text → ℕ → Text → Text
 place_line first m second n fault = line (first ++ decimal m ++ second ++ decimal n ++ codes ": " ++ fault)
@@ -66,6 +58,10 @@ place_line first m second n fault = line (first ++ decimal m ++ second ++ decima
 -- each entry behind a space
 abbrev pub behind_spaces : Vector → Text
 behind_spaces v = flat_map (λ z. codes " " ++ signed_decimal z) v
+
+-- a label and the entries of a vector
+abbrev pub entries_line : Text → Vector → Text
+entries_line label v = line (label ++ behind_spaces v)
 
 -- the line on the console
 abbrev pub status_line : Status → Text
@@ -76,8 +72,8 @@ status_line ReadFault = line (codes "read fault")
 status_line TooLong = line (codes "input too long")
 status_line (Grammar l c f) = place_line (codes "line ") l (codes " column ") c (fault_name f)
 status_line (Meaning i r f) = place_line (codes "item ") i (codes " row ") r (rule_name f)
-status_line (NotBuilt w) = line (codes "not built: " ++ word_of w)
-status_line (Line v) = line (codes "line:" ++ behind_spaces v)
+status_line (Line v) = entries_line (codes "line:") v
+status_line (Grade v) = entries_line (codes "grade:") v
 status_line Range = line (codes "range")
 status_line TooMany = line (codes "too many")
 status_line (Stopped k) = line (codes "stopped at stage " ++ decimal k)

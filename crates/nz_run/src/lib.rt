@@ -1,16 +1,16 @@
 //! The top call: reads the words and the file, solves it, stores the text and writes the status line.
-//! Its contract: when `run` ends with Done, the stored text lists exactly the irreducible elements of the monoid that the file
-//! defines, each once, in order; and each other status has its stated cause and leaves the files as they were.
+//! Its contract: when `run` ends with Done, the stored text has exactly what file and words ask of the monoid or the polyhedron that
+//! the file defines; each other status has its stated cause, and leaves the files as they were; both modes store one text.
 //! Below it stand the words, the grammar, the meaning, the solver, the output text and the outside. The program `nmz` calls it.
 //! Start with `specs/Runs.antt`, then `run`.
 #![tactic(auto)]
 
-mod built;
+mod laws;
 mod solving;
 mod status;
 mod status_lines;
 mod top;
 
-pub use built::Keyword;
+pub use laws::{modes_give_one_text, runs_give_one_text};
 pub use status::Status;
 pub use top::run;

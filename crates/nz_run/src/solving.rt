@@ -1,13 +1,10 @@
 //! From the bytes of the input to the bytes of the output.
 ghost use Rattle.std.specs.Prelude.{◌≡◌, MatchResult};
-ghost use Rattle.nz_system.specs.Meaning.{system_of, meaning};
 ghost use Rattle.nz_watch.specs.Telling.{HasPassedAll};
-ghost use Rattle.nz_solve.specs.Solutions.{IsPlain, AreToldOf, IsSolveRefusal};
-ghost use Rattle.nz_run.specs.FileSystems.{HasMeaning};
+ghost use Rattle.nz_solve.specs.Solutions.{AreToldOf, IsSolveRefusal};
 ghost use Rattle.nz_run.specs.Runs.{IsAnswered, IsFileSolved, IsSolved, IsCauseIn, IsCause, status_of};
 
 use crate::Status;
-use crate::built::first_unbuilt;
 use nz_blocks::blocks;
 use nz_input::{File, Goals, ReadRefusal, read};
 use nz_solve::{SolveRefusal, solve};
@@ -19,16 +16,16 @@ use std::alloc::Global;
 /// The most bytes that an input may have.
 pub const MOST: usize = 16_777_216;
 
-// The text for a system of which everything is built.
+// The text for a system.
 fn answer(
     alloc: Global,
     system: &System,
     limit: u32,
     watch: &mut Box<dyn Watch>,
 ) -> Result<Bytes, SolveRefusal>
-    requires { IsPlain system.now }
-    ensures { MatchResult result (λ text. IsAnswered system.now limit text × HasPassedAll (AreToldOf system.now.system) 0 (seen watch.old) (seen watch.new)) (IsSolveRefusal system.now.system limit (seen watch.old) (seen watch.new)) }
+    ensures { MatchResult result (λ text. IsAnswered system.now limit text × HasPassedAll (AreToldOf system.now.mode system.now.system) 0 (seen watch.old) (seen watch.new)) (IsSolveRefusal system.now.mode system.now.system limit (seen watch.old) (seen watch.new)) }
 {
+    system.kept();
     let outcome = match solve(alloc, system, limit, watch) {
         Ok(outcome) => outcome,
         Err(refusal) => return Err(refusal),
@@ -44,33 +41,11 @@ fn status_of(refusal: SolveRefusal) -> Status
 {
     match refusal {
         SolveRefusal::Line(vector) => Status::Line(vector),
+        SolveRefusal::Grade(vector) => Status::Grade(vector),
         SolveRefusal::Range => Status::Range,
         SolveRefusal::TooMany => Status::TooMany,
         SolveRefusal::Stopped { stage } => Status::Stopped { stage },
         SolveRefusal::NoMemory => Status::NoMemory,
-    }
-}
-
-// The text for a file with a meaning, where the words name these goals.
-fn meant(
-    alloc: Global,
-    file: &File,
-    goals: &Goals,
-    system: &System,
-    limit: u32,
-    watch: &mut Box<dyn Watch>,
-) -> Result<Bytes, Status>
-    requires meaning { HasMeaning file.now goals.now }
-    requires system { system.now ≡ meaning file.now goals.now }
-    ensures { MatchResult result (IsFileSolved goals.now limit (seen watch.old) (seen watch.new) file.now) (IsCauseIn goals.now limit (seen watch.old) (seen watch.new) file.now) }
-{
-    match first_unbuilt(file, goals) {
-        Some(word) => return Err(Status::NotBuilt(word)),
-        None => {}
-    }
-    match answer(alloc, system, limit, watch) {
-        Ok(text) => Ok(text),
-        Err(refusal) => Err(status_of(refusal)),
     }
 }
 
@@ -84,12 +59,16 @@ fn file_solved(
 ) -> Result<Bytes, Status>
     ensures { MatchResult result (IsFileSolved goals.now limit (seen watch.old) (seen watch.new) file.now) (IsCauseIn goals.now limit (seen watch.old) (seen watch.new) file.now) }
 {
-    match system_of(alloc, file, goals) {
-        Ok(system) => meant(alloc, file, goals, &system, limit, watch),
+    let system = match system_of(alloc, file, goals) {
+        Ok(system) => system,
         Err(SystemRefusal::Meaning { item, row, fault }) => {
-            Err(Status::Meaning { item, row, fault })
+            return Err(Status::Meaning { item, row, fault });
         }
-        Err(SystemRefusal::NoMemory) => Err(Status::NoMemory),
+        Err(SystemRefusal::NoMemory) => return Err(Status::NoMemory),
+    };
+    match answer(alloc, &system, limit, watch) {
+        Ok(text) => Ok(text),
+        Err(refusal) => Err(status_of(refusal)),
     }
 }
 

@@ -1,6 +1,5 @@
 ghost use Rattle.std.specs.Prelude.{◌≡◌};
 
-use crate::Keyword;
 use nz_input::Fault;
 use nz_system::MeaningFault;
 use nz_vec::Ints;
@@ -30,12 +29,12 @@ pub enum Status {
         row: u32,
         fault: MeaningFault,
     },
-    /// The file has an item, or the file or the words a goal, that the program does not solve yet.
-    NotBuilt(Keyword),
     /// The members have a line: this vector and its opposite are members. It is no multiple of a shorter member, and its first nonzero
     /// entry is positive.
     Line(Ints),
-    /// A number is no value of 128 bits. Which numbers make it so is not stated.
+    /// The first element of the Hilbert basis, whose degree is 0 or less.
+    Grade(Ints),
+    /// A number is no value of 128 bits. In primal mode, where no vector is asked, one that the run is known to form is above 2^62.
     Range,
     /// More vectors would have to be held than the limit allows.
     TooMany,
@@ -65,12 +64,12 @@ impl Status {
             Status::Grammar { .. } => 6,
             Status::Meaning { .. } => 7,
             Status::Line(_) => 8,
+            Status::Grade(_) => 9,
             Status::Range => 10,
             Status::TooMany => 11,
             Status::Stopped { .. } => 12,
             Status::WriteFault => 13,
             Status::NoMemory => 14,
-            Status::NotBuilt(_) => 15,
         }
     }
 }

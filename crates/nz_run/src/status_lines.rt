@@ -5,7 +5,7 @@ ghost use Rattle.nz_watch.specs.Counts.{Rose};
 ghost use Rattle.nz_edge.specs.Folders.{BothTold};
 ghost use Rattle.nz_edge.specs.Answers.{PutAll};
 ghost use Rattle.nz_blocks.specs.Lines.{line};
-ghost use Rattle.nz_run.specs.Statuses.{fault_name, rule_name, place_line, behind_spaces, status_line};
+ghost use Rattle.nz_run.specs.Statuses.{fault_name, rule_name, place_line, behind_spaces, entries_line, status_line};
 
 use crate::Status;
 use itoa::Buffer;
@@ -104,13 +104,13 @@ fn put_entries<S: Sink>(console: &mut S, entries: &Ints) -> bool
     true
 }
 
-// A line of the monoid.
-fn put_line<S: Sink>(console: &mut S, entries: &Ints) -> bool
-    ensures written { BothTold (S.written console.old) (S.written console.new) (λ old new. PutAll old new (line (codes "line:" ++ behind_spaces entries.now)) result) }
+// A label, the entries of a vector and an end of line.
+fn put_entries_line<S: Sink>(console: &mut S, label: &[u8], entries: &Ints) -> bool
+    ensures written { BothTold (S.written console.old) (S.written console.new) (λ old new. PutAll old new (entries_line label.now entries.now) result) }
     ensures cause { IsFalse result → Rose (S.faults console.old) (S.faults console.new) }
     ensures later { S.faults console.old ≤ S.faults console.new }
 {
-    if !put_all(console, b"line:") {
+    if !put_all(console, label) {
         return false;
     }
     if !put_entries(console, entries) {
@@ -181,8 +181,8 @@ pub fn put_status<S: Sink>(console: &mut S, status: &Status) -> bool
             u64::from(*row),
             rule_name(*fault),
         ),
-        Status::NotBuilt(keyword) => put_text(console, b"not built: ", keyword.word()),
-        Status::Line(vector) => put_line(console, vector),
+        Status::Line(vector) => put_entries_line(console, b"line:", vector),
+        Status::Grade(vector) => put_entries_line(console, b"grade:", vector),
         Status::Stopped { stage } => put_number_line(console, b"stopped at stage ", *stage),
         Status::Done => put_all(console, b"done\n"),
         Status::Usage => put_all(console, b"usage: nmz [options] PROJECT\n"),

@@ -123,7 +123,8 @@ fn run_words<F: Folder>(
 
 /// One run of the program: reads `<project>.in`, solves it, stores `<project>.out`, and writes the status line to the console.
 ///
-/// The words are those behind the program's own name. The watch is told the stages of the system's algorithm as they are passed.
+/// The words are those behind the program's own name. Every file that breaks no rule of meaning is taken, in both modes. The watch is
+/// told the stages of the system's algorithm as they are passed.
 pub fn run<F: Folder, S: Sink>(
     alloc: Global,
     words: &[String],
@@ -131,9 +132,12 @@ pub fn run<F: Folder, S: Sink>(
     console: &mut S,
     watch: &mut Box<dyn Watch>,
 ) -> Status
-    // What the status says of the words, the input, the files and the watch. At Done the stored text lists exactly the irreducible
-    // elements of the monoid that the input's file defines, each once, in order, and what else was asked; the watch was told all stages
-    // of its system. Each refusal has its cause, and leaves every file as it was.
+    // What the status says of the words, the input, the files and the watch. At Done the stored text has exactly what the input's file
+    // and the words ask: the module generators, the Hilbert basis, its elements of degree 1, the vertices, the extreme rays, the support
+    // hyperplanes and equations, a cover, and each asked vector with its parts or the first constraint that it breaks; and the watch was
+    // told all stages of the file's system in the mode of file and words. A file with a line, with an element of the Hilbert basis whose
+    // degree is 0 or less, or with more irreducible elements than the limit never gives Done. Each refusal has its cause, and leaves
+    // every file as it was; only WriteFault leaves what stands under the output's name open.
     ensures outcome { BothTold (F.files folder.old) (F.files folder.new) (Explains (bytes_of_each words.now) (seen watch.old) (seen watch.new) (F.faults folder.old) (F.faults folder.new) result) }
 
     // Words that order nothing are refused, and no others.

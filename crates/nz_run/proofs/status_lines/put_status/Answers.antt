@@ -2,7 +2,7 @@ use Rattle.std.proofs.Common.{◌≡◌, ◌++◌, ap, sym, ◌∙◌, rules}
 use Rattle.std.specs.Prelude.{codes, decimal}
 use Rattle.nz_vec.specs.Texts.{Text}
 use Rattle.nz_blocks.specs.Lines.{line}
-use Rattle.nz_run.specs.Statuses.{rule_name, place_line, behind_spaces, status_line}
+use Rattle.nz_run.specs.Statuses.{rule_name, place_line, entries_line, status_line}
 use Rattle.nz_run.specs.declared.status.Status.TheVariants.{Usage, Absent, ReadFault, TooLong, Range, TooMany, WriteFault, NoMemory}
 use Rattle.nz_run.proofs.Pieces.{put_same}
 use Rattle.nz_run.proofs.status_lines.put_status.Goals as goal
@@ -17,11 +17,6 @@ returns-in-Meaning-clause-written g c =
     let same : c.from.result ≡ c.in-Meaning.row = search (rules, c.from.ensures) in
     put_same (place_line (codes "item ") c.in-Meaning.item (codes " row ") c.from.result c.rule_name.result.now) (status_line c.args.status.now) c.put_place-in-Meaning.result (g.S.Sink.written c.args.console.now) (g.S.Sink.written c.put_place-in-Meaning.new.console)
     (ap (λ (t : Text). place_line (codes "item ") c.in-Meaning.item (codes " row ") c.from.result t) c.rule_name.ensures ∙ ap (λ n. place_line (codes "item ") c.in-Meaning.item (codes " row ") n (rule_name c.in-Meaning.fault)) same ∙ ap status_line (sym c.in-Meaning.is)) c.put_place-in-Meaning.ensures.written
-
-pub returns-in-NotBuilt-clause-written : goal.returns-in-NotBuilt-clause-written
-returns-in-NotBuilt-clause-written g c =
-    put_same (line (codes "not built: " ++ c.word.result.now)) (status_line c.args.status.now) c.put_text.result (g.S.Sink.written c.args.console.now) (g.S.Sink.written c.put_text.new.console)
-    (ap (λ (t : Text). line (codes "not built: " ++ t)) c.word.ensures ∙ ap status_line (sym c.in-NotBuilt.is)) c.put_text.ensures.written
 
 pub returns-in-Usage-clause-written : goal.returns-in-Usage-clause-written
 returns-in-Usage-clause-written g c =
@@ -61,4 +56,8 @@ returns-in-Stopped-clause-written g c =
 
 pub returns-in-Line-clause-written : goal.returns-in-Line-clause-written
 returns-in-Line-clause-written g c =
-    put_same (line (codes "line:" ++ behind_spaces c.in-Line.vector)) (status_line c.args.status.now) c.put_line.result (g.S.Sink.written c.args.console.now) (g.S.Sink.written c.put_line.new.console) (ap status_line (sym c.in-Line.is)) c.put_line.ensures.written
+    put_same (entries_line (codes "line:") c.in-Line.vector) (status_line c.args.status.now) c.put_entries_line.result (g.S.Sink.written c.args.console.now) (g.S.Sink.written c.put_entries_line.new.console) (ap status_line (sym c.in-Line.is)) c.put_entries_line.ensures.written
+
+pub returns-in-Grade-clause-written : goal.returns-in-Grade-clause-written
+returns-in-Grade-clause-written g c =
+    put_same (entries_line (codes "grade:") c.in-Grade.vector) (status_line c.args.status.now) c.put_entries_line-in-Grade.result (g.S.Sink.written c.args.console.now) (g.S.Sink.written c.put_entries_line-in-Grade.new.console) (ap status_line (sym c.in-Grade.is)) c.put_entries_line-in-Grade.ensures.written
