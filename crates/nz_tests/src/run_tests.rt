@@ -58,12 +58,13 @@ fn told_text(alloc: Global, watch: &Box<dyn Watch>) -> Result<String, Fail> {
     Ok(text)
 }
 
+/// What a run left.
 #[derive(Drop)]
-struct Ran {
-    folder: MemFolder,
-    console: MemSink,
-    told: String,
-    code: u8,
+pub struct Ran {
+    pub folder: MemFolder,
+    pub console: MemSink,
+    pub told: String,
+    pub code: u8,
 }
 
 // The words stand behind one another, with a space between two.
@@ -75,7 +76,8 @@ fn words_of(alloc: Global, line: &str) -> Result<Vec<String>, Fail> {
     Ok(words)
 }
 
-fn run_on(
+/// A run with the words of the line, on this input as `p.in`, whose watch asks to stop after so many stages.
+pub fn run_on(
     alloc: Global,
     line: &str,
     input: Option<&[u8]>,
@@ -239,29 +241,20 @@ fn statuses(rt: HostRuntime) -> Result<(), Fail> {
         ),
         (
             "p",
+            Some(b"amb_space 2\ngrading\n1 -1\n".as_slice()),
+            0,
+            0,
+            9,
+            b"grade: 0 1\n".as_slice(),
+            None,
+        ),
+        (
+            "p",
             Some(FIRST),
             2,
             0,
             13,
             b"write fault\n".as_slice(),
-            None,
-        ),
-        (
-            "p --DualMode",
-            Some(FIRST),
-            0,
-            0,
-            15,
-            b"not built: DualMode\n".as_slice(),
-            None,
-        ),
-        (
-            "p",
-            Some(b"amb_space 2\nDualMode\ngrading\n1 1\n".as_slice()),
-            0,
-            0,
-            15,
-            b"not built: grading\n".as_slice(),
             None,
         ),
     ] {
@@ -271,10 +264,10 @@ fn statuses(rt: HostRuntime) -> Result<(), Fail> {
     Ok(())
 }
 
-const MAGIC: &[u8] =
+pub const MAGIC: &[u8] =
     b"/* magic squares */\namb_space 9\nequations 7\n1 1 1 -1 -1 -1 0 0 0\n1 1 1 0 0 0 -1 -1 -1\n0 1 1 -1 0 0 -1 0 0\n1 0 1 0 -1 0 0 -1 0\n1 1 0 0 0 -1 0 0 -1\n0 1 1 0 -1 0 0 0 -1\n1 1 0 0 -1 0 -1 0 0\n";
 
-const MAGIC_TEXT: &[u8] =
+pub const MAGIC_TEXT: &[u8] =
     b"amb_space 9\nhomogeneous\n\n5 Hilbert basis elements:\n0 2 1 2 1 0 1 0 2\n1 0 2 2 1 0 0 2 1\n1 1 1 1 1 1 1 1 1\n1 2 0 0 1 2 2 0 1\n2 0 1 0 1 2 1 2 0\n";
 
 const CONE: &[u8] =

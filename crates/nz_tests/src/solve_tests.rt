@@ -1,31 +1,14 @@
 //! Systems of files, solved: what the goals ask, what the watch is told, and lines.
-ghost use Rattle.std.specs.Prelude.{IsTrue, IfSome, ◌≤◌};
-ghost use Rattle.nz_solve.specs.Solutions.{IsPlain};
+ghost use Rattle.std.specs.Prelude.{IfSome, ◌≤◌};
 
 use nz_blocks::blocks;
-use nz_input::{Goals, Mode, read};
+use nz_input::{Goals, read};
 use nz_solve::{SolveRefusal, solve};
 use nz_system::{System, system_of};
 use nz_vec::Ints;
 use nz_watch::{MemWatch, Watch};
 use std::alloc::Global;
 use std::test::Fail;
-
-// No level, no grading, no asked vectors, and the primal algorithm.
-fn is_plain(system: &System) -> bool
-    ensures { IsTrue result → IsPlain system.now }
-{
-    if system.level {
-        return false;
-    }
-    if system.grading.is_some() {
-        return false;
-    }
-    if system.asked.is_some() {
-        return false;
-    }
-    system.mode == Mode::Primal
-}
 
 // The number of the call that asks to stop, after so many that do not.
 fn stop_at(passed: Option<u8>) -> Option<u64>
@@ -37,10 +20,10 @@ fn stop_at(passed: Option<u8>) -> Option<u64>
     }
 }
 
-fn put_line(text: &mut String, line: &Ints) -> Result<(), Fail> {
-    text.push_str("line:")?;
-    for place in 0..line.len() {
-        write!(text, " {}", line.at(place))?;
+fn put_vector(text: &mut String, label: &str, vector: &Ints) -> Result<(), Fail> {
+    text.push_str(label)?;
+    for place in 0..vector.len() {
+        write!(text, " {}", vector.at(place))?;
     }
     text.push_str("\n")?;
     Ok(())
@@ -58,12 +41,11 @@ fn put_told(text: &mut String, watch: &Box<dyn Watch>) -> Result<(), Fail> {
 }
 
 // The text of the outcome and what the watch was told, or the refusal.
-fn answer(alloc: Global, system: &System, limit: u32, passed: Option<u8>) -> Result<String, Fail>
-    requires { IsPlain system.now }
-{
+fn answer(alloc: Global, system: &System, limit: u32, passed: Option<u8>) -> Result<String, Fail> {
     let watch = MemWatch::new(alloc, 10, stop_at(passed))?;
     let mut watch: Box<dyn Watch> = Box::new(alloc, watch)?;
     let mut text = String::new(alloc);
+    system.kept();
     match solve(alloc, system, limit, &mut watch) {
         Ok(outcome) => {
             let output = blocks(alloc, &outcome)?;
@@ -72,7 +54,8 @@ fn answer(alloc: Global, system: &System, limit: u32, passed: Option<u8>) -> Res
                 Err(_) => return Err(Fail::from("no text")),
             }
         }
-        Err(SolveRefusal::Line(line)) => put_line(&mut text, &line)?,
+        Err(SolveRefusal::Line(line)) => put_vector(&mut text, "line:", &line)?,
+        Err(SolveRefusal::Grade(element)) => put_vector(&mut text, "grade:", &element)?,
         Err(SolveRefusal::Range) => text.push_str("range\n")?,
         Err(SolveRefusal::TooMany) => text.push_str("too many\n")?,
         Err(SolveRefusal::Stopped { stage }) => write!(text, "stopped {stage}\n")?,
@@ -91,11 +74,7 @@ fn solved(alloc: Global, text: &str, limit: u32, passed: Option<u8>) -> Result<S
         Ok(system) => system,
         Err(_) => return Err(Fail::from("no system")),
     };
-    if is_plain(&system) {
-        answer(alloc, &system, limit, passed)
-    } else {
-        Err(Fail::from("not plain"))
-    }
+    answer(alloc, &system, limit, passed)
 }
 
 #[test]
