@@ -23,6 +23,7 @@ use Rattle.nz_classes.specs.Steps.{HasSumOutside, HasPairOutside, IsCarry, produ
 use Rattle.nz_classes.specs.Sums.{sum_of, IsSumRefusal}
 use Rattle.nz_classes.specs.Walks.{paired}
 use Rattle.nz_classes.proofs.SimplexLemmas.{length-paired, pair_at}
+use Rattle.nz_classes.proofs.SumLemmas.{sum_taken}
 
 -- ---- one more
 pub row_more : {A B : Type 0} (f : A → B) (xs : List A) (i : ℕ) (d : A) (done : List B) (b : B) (new : List B) → i < length xs → done ≡ take i (map f xs) → b ≡ f (get_or xs i d) → new ≡ done ++ b ∷ [] → new ≡ take (i + 1) (map f xs)
@@ -215,3 +216,14 @@ products_none first ks vs j = sym (ap (λ (zs : List ℤ). first ++ zs) (none (p
     none : (zs : List ℤ) → take 0 zs ≡ []
     none [] = refl
     none (z ∷ zs) = refl
+
+-- ---- an entry from the left
+pub left_start : (a b s : ℤ) (xs : List ℤ) → s ≡ a +ℤ b → s ≡ sum_of (a ∷ b ∷ take 0 xs)
+left_start a b s [] e = omega (arith, sums, e)
+left_start a b s (x ∷ xs) e = omega (arith, sums, e)
+
+pub left_more : (a b old new p : ℤ) (ks : List ℤ) (vs : List Vector) (j i : ℕ) → length ks ≡ length vs → i < length vs → old ≡ sum_of (a ∷ b ∷ take i (products ks vs j)) → new ≡ old +ℤ p → p ≡ entry ks i *ℤ entry (get_or vs i []) j → new ≡ sum_of (a ∷ b ∷ take (i + 1) (products ks vs j))
+left_more a b old new p ks vs j i l m h n e =
+    let t = sum_taken (products ks vs j) i (omega (arith, m, length-products ks vs j l)) in
+    let q = product_at ks vs j i l m in
+    omega (arith, sums, h, n, e, t, q)

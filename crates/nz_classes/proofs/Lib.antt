@@ -1,6 +1,7 @@
 pub mod CauseLemmas
 pub mod ClassLaws
 pub mod EntryLemmas
+pub mod OriginLemmas
 pub mod PutLemmas
 pub mod SimplexLemmas
 pub mod SortLemmas

@@ -14,6 +14,9 @@ sum_append : (xs ys : List ℤ) → sum_of (xs ++ ys) ≡ sum_of xs +ℤ sum_of 
 sum_append [] ys = omega (arith, sums)
 sum_append (a ∷ xs) ys = omega (arith, sums, sum_append xs ys)
 
+pub sum_taken : (xs : List ℤ) (i : ℕ) → i < length xs → sum_of (take (i + 1) xs) ≡ sum_of (take i xs) +ℤ get_or xs i (pos 0)
+sum_taken xs i l = (let a = ap sum_of (take_more xs i (pos 0) l) in let b = sum_append (take i xs) (get_or xs i (pos 0) ∷ []) in omega (arith, sums, a, b))
+
 sum_positive : (xs : List ℤ) → Each (λ a. pos 0 ≤ℤ a) xs → pos 0 ≤ℤ sum_of xs
 sum_positive [] h = omega (arith, ints)
 sum_positive (a ∷ xs) h = (let k = sum_positive xs h.1 in let l = h.0 in omega (arith, sums, k, l))

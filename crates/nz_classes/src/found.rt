@@ -46,11 +46,10 @@ impl<T: Scalar> Found<T> {
     }
 
     /// Puts the vector after the others, unless it stands there already.
-    pub(crate) fn put(&mut self, alloc: Global, vector: &Row<T>) -> Result<(), NoMemory>
-        ensures { OnOk result (IsPut self.old vector.now self.new) }
+    pub(crate) fn put(&mut self, vector: Row<T>) -> Result<(), NoMemory>
+        ensures { OnOk result (IsPut self.old vector self.new) }
     {
-        let entries = entries_of(alloc, vector)?;
-        match self.vectors.insert(entries) {
+        match self.vectors.insert(vector.into_vec()) {
             Ok(_) => {}
             Err(_) => return Err(NoMemory),
         }
@@ -80,18 +79,4 @@ fn rows_of<T: Scalar>(alloc: Global, list: &[Vec<T>]) -> Result<Rows<T>, NoMemor
         rows.push(row)?;
     }
     Ok(rows)
-}
-
-/// The entries of a vector.
-fn entries_of<T: Scalar>(alloc: Global, x: &Row<T>) -> Result<Vec<T>, NoMemory>
-    ensures { IfOk result (λ v. map T.integer v.items ≡ x.now) }
-{
-    let mut entries = match Vec::with_capacity(alloc, x.len()) {
-        Ok(entries) => entries,
-        Err(_) => return Err(NoMemory),
-    };
-    for column in 0..x.len() {
-        entries.push_reserved(x.at(column));
-    }
-    Ok(entries)
 }

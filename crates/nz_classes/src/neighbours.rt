@@ -1,5 +1,5 @@
 // The point in the class of a point and a unit vector.
-ghost use Rattle.std.specs.Prelude.{◌≡◌, ◌<◌, ◌+ℤ◌, ◌<ℤ◌, ◌≤ℤ◌, [], ◌∷◌, ◌++◌, length, map, unsigned_abs, OnOk, MatchBool, MatchOption, MatchResult};
+ghost use Rattle.std.specs.Prelude.{◌≡◌, ◌<◌, ◌+ℤ◌, ◌<ℤ◌, ◌≤ℤ◌, [], ◌∷◌, ◌++◌, length, map, unsigned_abs, ◌*ℤ◌, IfSome, OnOk, MatchOption, MatchResult};
 ghost use Rattle.std.specs.List.{AllByRecursion as Each};
 ghost use Rattle.nz_spec.specs.Vectors.{combination, minus, opposite, plus, values_at, HasWidth};
 ghost use Rattle.nz_linear.specs.Echelon.{unit_at};
@@ -11,7 +11,8 @@ ghost use Rattle.nz_classes.specs.Walks.{paired};
 
 use crate::balance::balanced_sum;
 use crate::steps::Steps;
-use nz_vec::{NoMemory, Num, Row, Rows, Scalar};
+use crate::values::is_below;
+use nz_vec::{NoMemory, Num, Row, Rows, Scalar, is_zero};
 use std::alloc::Global;
 
 /// The point in the class of a point and a unit vector: their sum, less the sides at which the
@@ -70,13 +71,6 @@ fn carry<T: Scalar>(sum: T, divisor: T) -> T
     }
 }
 
-/// Whether the first value stands for less than the second.
-fn is_below<T: Scalar>(a: T, b: T) -> bool
-    ensures { MatchBool result (T.integer a <ℤ T.integer b) (T.integer b ≤ℤ T.integer a) }
-{
-    a < b
-}
-
 /// The sum of two vectors and of the sides with their factors.
 fn moved<T: Scalar>(
     alloc: Global,
@@ -103,9 +97,71 @@ fn moved<T: Scalar>(
     Ok(Row::from_vec(entries))
 }
 
-/// Its entry at a column. The terms and the sum are small where those of points are, but not the
-/// sums from the left.
+/// Its entry at a column: the sum from the left where that stays inside the type, and else the terms
+/// in balance.
 fn moved_entry<T: Scalar>(
+    alloc: Global,
+    sides: &Rows<T>,
+    first: &Row<T>,
+    second: &Row<T>,
+    factors: &Row<T>,
+    column: usize,
+) -> Result<T, Num>
+    requires first_width { column < length first.now }
+    requires second_width { length second.now ≡ length first.now }
+    requires one_each { length factors.now ≡ length sides.now }
+    requires wide { Each (HasWidth (length first.now)) sides.now }
+    ensures { MatchResult result (λ s. T.integer s ≡ sum_of (column_terms first.now second.now factors.now sides.now column)) (λ e. e ≡ Num.Range → Each T.fits (column_terms first.now second.now factors.now sides.now column) → ¬ T.fits (sum_of (column_terms first.now second.now factors.now sides.now column))) }
+{
+    match left_entry(sides, first, second, factors, column) {
+        Some(entry) => Ok(entry),
+        None => balanced_entry(alloc, sides, first, second, factors, column),
+    }
+}
+
+/// The entry by sums from the left, if these stay inside the type. It takes no memory.
+fn left_entry<T: Scalar>(
+    sides: &Rows<T>,
+    first: &Row<T>,
+    second: &Row<T>,
+    factors: &Row<T>,
+    column: usize,
+) -> Option<T>
+    requires first_width { column < length first.now }
+    requires second_width { length second.now ≡ length first.now }
+    requires one_each { length factors.now ≡ length sides.now }
+    requires wide { Each (HasWidth (length first.now)) sides.now }
+    ensures { IfSome result (λ s. T.integer s ≡ sum_of (column_terms first.now second.now factors.now sides.now column)) }
+{
+    let mut sum = match first.at(column).try_add(second.at(column)) {
+        Some(sum) => sum,
+        None => return None,
+    };
+    for place in 0..sides.len() {
+        sum = match with_product(sum, factors.at(place), sides.at(place).at(column)) {
+            Some(more) => more,
+            None => return None,
+        };
+    }
+    Some(sum)
+}
+
+/// The sum with one product more. Most factors are 0, and take none.
+fn with_product<T: Scalar>(sum: T, factor: T, entry: T) -> Option<T>
+    ensures { IfSome result (λ s. T.integer s ≡ T.integer sum +ℤ T.integer factor *ℤ T.integer entry) }
+{
+    if is_zero(factor) {
+        return Some(sum);
+    }
+    match factor.try_mul(entry) {
+        Some(product) => sum.try_add(product),
+        None => None,
+    }
+}
+
+/// The entry by terms in balance. These and their sum are small where those of points are, but not
+/// the sums from the left.
+fn balanced_entry<T: Scalar>(
     alloc: Global,
     sides: &Rows<T>,
     first: &Row<T>,

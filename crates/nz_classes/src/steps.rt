@@ -9,7 +9,7 @@ ghost use Rattle.nz_classes.specs.Classes.{IsRestOf};
 ghost use Rattle.nz_classes.specs.Steps.{HasSumOutside, IsPrepared};
 ghost use Rattle.nz_classes.specs.Walks.{paired, IsFullSimplex};
 
-use crate::values::{divisors_of, quotients_of, values_of_all};
+use crate::values::{quotients_of, values_of_all};
 use crate::zero::zero;
 use nz_vec::{Num, Row, Rows, Scalar, unit};
 use std::alloc::Global;
@@ -25,19 +25,17 @@ pub(crate) struct Steps<'a, T: Scalar> {
     pub(crate) values: Rows<T>,
 }
 
-/// Reckons the divisors and the points in the classes of the unit vectors.
+/// Reckons the points in the classes of the unit vectors, and the values at these.
 pub(crate) fn prepare<'a, T: Scalar>(
     alloc: Global,
     sides: &'a Rows<T>,
     forms: &'a Rows<T>,
+    divisors: Row<T>,
 ) -> Result<Steps<'a, T>, Num>
-    requires { IsFullSimplex sides.now forms.now }
+    requires simplex { IsFullSimplex sides.now forms.now }
+    requires divisors { divisors ≡ map divisor (paired forms.now sides.now) }
     ensures { MatchResult result (λ s. (s.sides.now ≡ sides.now) × (s.forms.now ≡ forms.now) × IsPrepared sides.now forms.now s.divisors s.units s.values) (IsCaused (unsigned_abs T.HALF) sides.now forms.now) }
 {
-    let divisors = match divisors_of(alloc, sides, forms) {
-        Ok(divisors) => divisors,
-        Err(refusal) => return Err(refusal),
-    };
     let units = match unit_points(alloc, sides, forms, &divisors) {
         Ok(units) => units,
         Err(refusal) => return Err(refusal),

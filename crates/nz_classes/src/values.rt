@@ -1,5 +1,5 @@
 // The values of forms at vectors, and the floors of quotients.
-ghost use Rattle.std.specs.Prelude.{◌≡◌, pos, ◌<ℤ◌, ◌<◌, length, map, IfOk, MatchResult};
+ghost use Rattle.std.specs.Prelude.{◌≡◌, pos, ◌<ℤ◌, ◌≤ℤ◌, ◌<◌, length, map, IfOk, MatchBool, MatchResult};
 ghost use Rattle.std.specs.List.{AllByRecursion as Each};
 ghost use Rattle.nz_spec.specs.Vectors.{values_at, HasWidth};
 ghost use Rattle.nz_linear.specs.DualPairs.{divisor};
@@ -56,6 +56,26 @@ pub(crate) fn divisors_of<T: Scalar>(
         }
     }
     Ok(Row::from_vec(divisors))
+}
+
+/// Whether no divisor is above 1.
+pub(crate) fn are_at_most_one<T: Scalar>(divisors: &Row<T>) -> bool
+    ensures { MatchBool result (Each (λ d. d ≤ℤ pos 1) divisors.now) (¬ Each (λ d. d ≤ℤ pos 1) divisors.now) }
+{
+    let one = T::of_i64(1);
+    for place in 0..divisors.len() {
+        if is_below(one, divisors.at(place)) {
+            return false;
+        }
+    }
+    true
+}
+
+/// Whether the first value stands for less than the second.
+pub(crate) fn is_below<T: Scalar>(a: T, b: T) -> bool
+    ensures { MatchBool result (T.integer a <ℤ T.integer b) (T.integer b ≤ℤ T.integer a) }
+{
+    a < b
 }
 
 /// The floors of the entries of the forms at a column by the divisors.

@@ -1,6 +1,7 @@
-ghost use Rattle.std.specs.Prelude.{◌≡◌, ◌<◌, ◌≤◌, ℕ, ℤ, List, [], length, unsigned_abs, slice_index_or, MatchResult};
+ghost use Rattle.std.specs.Prelude.{◌≡◌, ◌⊎◌, ◌<◌, ◌≤◌, ℕ, ℤ, List, [], ◌∷◌, length, map, unsigned_abs, slice_index_or, MatchResult};
 ghost use Rattle.std.specs.List.{AllByRecursion as Each};
 ghost use Rattle.nz_spec.specs.Vectors.{plus, values_at, HasWidth};
+ghost use Rattle.nz_linear.specs.DualPairs.{divisor};
 ghost use Rattle.nz_linear.specs.Echelon.{unit_at};
 ghost use Rattle.nz_classes.specs.Causes.{IsCaused};
 ghost use Rattle.nz_classes.specs.Classes.{HasReducedValues};
@@ -10,6 +11,7 @@ ghost use Rattle.nz_classes.specs.Walks.{paired, IsFullSimplex, IsRefusal, Lists
 use crate::found::Found;
 use crate::neighbours::neighbour;
 use crate::steps::{Steps, prepare};
+use crate::values::{are_at_most_one, divisors_of};
 use crate::zero::zero;
 use nz_vec::{Num, Row, Rows, Scalar, Work};
 use std::alloc::Global;
@@ -19,7 +21,7 @@ use std::alloc::Global;
 /// and 0 at the others. The classes of vectors that differ by whole sums of the sides are a finite
 /// group that the unit vectors generate, and each has one point; the walk goes from 0 along the unit
 /// vectors until no new class is met (Bruns and Ichim, "Normaliz: algorithms for affine monoids and
-/// rational cones").
+/// rational cones"). Where each form is 1 at its side there is no class but that of 0.
 pub fn walk<T: Scalar>(
     alloc: Global,
     simplex: &Rows<T>,
@@ -29,7 +31,48 @@ pub fn walk<T: Scalar>(
     requires { IsFullSimplex simplex.now forms.now }
     ensures { MatchResult result (ListsPoints limit simplex.now) (IsRefusal (unsigned_abs T.HALF) limit simplex.now forms.now) }
 {
-    let steps = match prepare(alloc, simplex, forms) {
+    let divisors = match divisors_of(alloc, simplex, forms) {
+        Ok(divisors) => divisors,
+        Err(refusal) => return Err(work_of(refusal)),
+    };
+    if are_at_most_one(&divisors) {
+        origin_alone(alloc, simplex.len(), limit)
+    } else {
+        walk_classes(alloc, simplex, forms, divisors, limit)
+    }
+}
+
+/// The zero vector as a list, as long as the limit is no less.
+fn origin_alone<T: Scalar>(alloc: Global, width: usize, limit: u32) -> Result<Rows<T>, Work>
+    ensures { MatchResult result (λ rows. (rows ≡ unit_at width width ∷ []) × (1 ≤ limit)) (λ e. (e ≡ Work.NoMemory) ⊎ ((e ≡ Work.TooMany) × (limit ≡ 0))) }
+{
+    if limit == 0 {
+        return Err(Work::TooMany);
+    }
+    let zero = match zero(alloc, width) {
+        Ok(zero) => zero,
+        Err(_) => return Err(Work::NoMemory),
+    };
+    let mut rows = Rows::new(alloc);
+    match rows.push(zero) {
+        Ok(()) => Ok(rows),
+        Err(_) => Err(Work::NoMemory),
+    }
+}
+
+/// The walk from 0, with the divisors of the forms.
+fn walk_classes<T: Scalar>(
+    alloc: Global,
+    simplex: &Rows<T>,
+    forms: &Rows<T>,
+    divisors: Row<T>,
+    limit: u32,
+) -> Result<Rows<T>, Work>
+    requires simplex { IsFullSimplex simplex.now forms.now }
+    requires divisors { divisors ≡ map divisor (paired forms.now simplex.now) }
+    ensures { MatchResult result (ListsPoints limit simplex.now) (IsRefusal (unsigned_abs T.HALF) limit simplex.now forms.now) }
+{
+    let steps = match prepare(alloc, simplex, forms, divisors) {
         Ok(steps) => steps,
         Err(refusal) => return Err(work_of(refusal)),
     };
@@ -56,7 +99,7 @@ fn begin<T: Scalar>(alloc: Global, width: usize, limit: u32) -> Result<Found<T>,
         Ok(zero) => zero,
         Err(refusal) => return Err(Work::from(refusal)),
     };
-    match note(alloc, &mut found, &zero, limit) {
+    match note(&mut found, zero, limit) {
         Ok(()) => Ok(found),
         Err(refusal) => Err(refusal),
     }
@@ -156,19 +199,14 @@ fn step<T: Scalar>(
         Ok(next) => next,
         Err(refusal) => return Err(work_of(refusal)),
     };
-    note(alloc, found, &next, limit)
+    note(found, next, limit)
 }
 
 /// Puts a vector into the list, as long as that has no more than `limit`.
-fn note<T: Scalar>(
-    alloc: Global,
-    found: &mut Found<T>,
-    vector: &Row<T>,
-    limit: u32,
-) -> Result<(), Work>
-    ensures { MatchResult result (λ _. IsPut found.old vector.now found.new × (length found.new ≤ limit)) (IsFull limit found.old vector.now found.new) }
+fn note<T: Scalar>(found: &mut Found<T>, vector: Row<T>, limit: u32) -> Result<(), Work>
+    ensures { MatchResult result (λ _. IsPut found.old vector found.new × (length found.new ≤ limit)) (IsFull limit found.old vector found.new) }
 {
-    match found.put(alloc, vector) {
+    match found.put(vector) {
         Ok(()) => {}
         Err(refusal) => return Err(Work::from(refusal)),
     }

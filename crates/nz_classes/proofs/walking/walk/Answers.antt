@@ -1,44 +1,26 @@
-use Rattle.std.proofs.Common.{ℕ, [], List, length, sym, subst}
+use Rattle.std.proofs.Common.{inl, inr}
 use Rattle.std.specs.Prelude.{unsigned_abs}
-use Rattle.std.specs.List.{AllByRecursion as Each}
-use Rattle.nz_spec.specs.Vectors.{Vector}
-use Rattle.nz_linear.specs.Echelon.{unit_at}
-use Rattle.nz_linear.proofs.Units.{length-unit_at}
-use Rattle.nz_classes.specs.Steps.{IsExpanded, IsFull, IsPart, IsPut}
-use Rattle.nz_classes.specs.Walks.{paired}
-use Rattle.nz_classes.proofs.WalkLemmas.{part_none, zero_reduced, put_part, put_contains, full_refusal, extends_contains, points_listed}
+use Rattle.nz_classes.proofs.CauseLemmas.{caused_value}
+use Rattle.nz_classes.proofs.OriginLemmas.{origin_listed, origin_refused}
+use Rattle.nz_classes.proofs.SimplexLemmas.{sides_wide, forms_wide}
+use Rattle.nz_classes.proofs.SortLemmas.{match_result}
+use Rattle.nz_classes.proofs.StepLemmas.{caused_of}
 use Rattle.nz_classes.proofs.walking.walk.Goals as goal
 
+pub divisors_of-requires-clause-sides_wide : goal.divisors_of-requires-clause-sides_wide
+divisors_of-requires-clause-sides_wide g c = sides_wide c.args.simplex.now c.args.forms.now c.requires
+
+pub divisors_of-requires-clause-forms_wide : goal.divisors_of-requires-clause-forms_wide
+divisors_of-requires-clause-forms_wide g c = forms_wide c.args.simplex.now c.args.forms.now c.requires
+
 pub returns-in-Err : goal.returns-in-Err
-returns-in-Err g c = c.work_of.ensures (unsigned_abs g.T.Scalar.HALF) c.args.limit c.args.simplex.now c.args.forms.now c.in-Err.ensures
+returns-in-Err g c = c.work_of.ensures (unsigned_abs g.T.Scalar.HALF) c.args.limit c.args.simplex.now c.args.forms.now (caused_of (unsigned_abs g.T.Scalar.HALF) c.args.simplex.now c.args.forms.now c.in-Err.refusal (λ e. caused_value g.T.Scalar.HALF g.T.Scalar.fits g.met.T.Scalar.room c.args.simplex.now c.args.forms.now c.requires c.args.simplex.now (λ x k. inr (inl k)) (c.in-Err.ensures e)))
 
-pub returns-in-Err-begin : goal.returns-in-Err-begin
-returns-in-Err-begin g c =
-    let w = length c.args.simplex.now in
-    let ps = paired c.args.forms.now c.args.simplex.now in
-    let h = c.in-Err-begin.ensures in
-    full_refusal c.args.simplex.now c.args.forms.now c.requires (unsigned_abs g.T.Scalar.HALF) c.args.limit [] (unit_at w w) h.0 (part_none w ps c.args.limit) (length-unit_at w w) (zero_reduced w ps c.requires.dual.dual) c.in-Err-begin.refusal (subst (λ (n : ℕ). IsFull c.args.limit [] (unit_at n n) h.0 c.in-Err-begin.refusal) c.len.ensures h.1)
-
-pub close-requires-clause-part : goal.close-requires-clause-part
-close-requires-clause-part g c =
+pub returns-then-are_at_most_one : goal.returns-then-are_at_most_one
+returns-then-are_at_most_one g c =
     let sides = c.args.simplex.now in
     let forms = c.args.forms.now in
-    let w = length sides in
-    let ps = paired forms sides in
-    let h = c.in-Ok-begin.ensures in
-    let p = put_part w ps c.args.limit [] (unit_at w w) c.in-Ok-begin.found (part_none w ps c.args.limit) (length-unit_at w w) (zero_reduced w ps c.requires.dual.dual) (subst (λ (n : ℕ). IsPut [] (unit_at n n) c.in-Ok-begin.found) c.len.ensures h.0) h.1 in
-    subst (λ (vs : List Vector). IsPart (length vs) (paired c.in-Ok.steps.forms.now vs) c.args.limit c.in-Ok-begin.found) (sym c.in-Ok.ensures.0)
-    (subst (λ (fs : List Vector). IsPart w (paired fs sides) c.args.limit c.in-Ok-begin.found) (sym c.in-Ok.ensures.1) p)
-
-pub returns-in-Ok-in_order : goal.returns-in-Ok-in_order
-returns-in-Ok-in_order g c =
-    let sides = c.args.simplex.now in
-    let forms = c.args.forms.now in
-    let w = length sides in
-    let h = c.in-Ok-begin.ensures in
-    let r = c.in-Ok-close.ensures in
-    let new = c.close.new.found in
-    let z = extends_contains c.in-Ok-begin.found new (unit_at w w) r.1 (put_contains [] (unit_at w w) c.in-Ok-begin.found (subst (λ (n : ℕ). IsPut [] (unit_at n n) c.in-Ok-begin.found) c.len.ensures h.0)) in
-    let part = subst (λ (fs : List Vector). IsPart w (paired fs sides) c.args.limit new) c.in-Ok.ensures.1 (subst (λ (vs : List Vector). IsPart (length vs) (paired c.in-Ok.steps.forms.now vs) c.args.limit new) c.in-Ok.ensures.0 r.0) in
-    let all = subst (λ (fs : List Vector). Each (IsExpanded w (paired fs sides) new) new) c.in-Ok.ensures.1 (subst (λ (vs : List Vector). Each (IsExpanded (length vs) (paired c.in-Ok.steps.forms.now vs) new) new) c.in-Ok.ensures.0 r.2) in
-    points_listed sides forms c.requires c.args.limit new part all z c.in-Ok-in_order.points c.in-Ok-in_order.ensures.permutation c.in-Ok-in_order.ensures.order
+    match_result _ _ _ _
+    (λ rows h. origin_listed sides forms c.requires c.in-Ok.divisors c.args.limit rows c.len.result c.in-Ok.ensures c.if-are_at_most_one.ensures c.len.ensures h)
+    (λ e h. origin_refused sides forms c.requires (unsigned_abs g.T.Scalar.HALF) c.args.limit e h)
+    c.origin_alone.result c.origin_alone.ensures

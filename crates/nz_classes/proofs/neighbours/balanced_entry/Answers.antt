@@ -5,7 +5,7 @@ use Rattle.nz_linear.proofs.Lists.{each_map}
 use Rattle.nz_classes.specs.Sums.{sum_of}
 use Rattle.nz_classes.proofs.EntryLemmas.{terms_are, sum_refusal}
 use Rattle.nz_classes.proofs.SortLemmas.{match_result}
-use Rattle.nz_classes.proofs.neighbours.moved_entry.Goals as goal
+use Rattle.nz_classes.proofs.neighbours.balanced_entry.Goals as goal
 
 pub at-requires-2 : goal.at-requires-2
 at-requires-2 g c = omega (arith, c.requires.first_width, c.requires.second_width)
