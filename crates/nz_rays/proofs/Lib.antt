@@ -6,3 +6,5 @@ pub mod RangeLemmas
 pub mod FewLemmas
 pub mod WordLemmas
 pub mod RayLemmas
+pub mod SharedLemmas
+pub mod CutSetLemmas

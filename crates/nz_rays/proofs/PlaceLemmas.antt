@@ -49,7 +49,7 @@ increasing_at (x ∷ xs) p i zero l h = absurd (omega arith)
 increasing_at (x ∷ xs) p zero (suc j) l h = each_at (λ y. x < y) 0 xs j p.0 (omega arith)
 increasing_at (x ∷ xs) p (suc i) (suc j) l h = increasing_at xs p.1 i j (omega arith) (omega arith)
 
-increasing_take : (xs : List ℕ) → Pairwise ◌<◌ xs → (i : ℕ) → i < length xs → Each (λ y. y < get_or xs i 0) (take i xs)
+pub increasing_take : (xs : List ℕ) → Pairwise ◌<◌ xs → (i : ℕ) → i < length xs → Each (λ y. y < get_or xs i 0) (take i xs)
 increasing_take [] p i l = absurd (omega arith)
 increasing_take (x ∷ xs) p zero l = tt
 increasing_take (x ∷ xs) p (suc i) l = (each_at (λ y. x < y) 0 xs i p.0 (omega arith), increasing_take xs p.1 i (omega arith))
@@ -68,7 +68,7 @@ pub record IsSought (xs : List ℕ) (x low high : ℕ) : Type 0 where
 pub sought_start : (xs : List ℕ) (x n : ℕ) → n ≡ length xs → IsSought xs x 0 n
 sought_start xs x n e = record { ordered = omega arith; within = omega arith; below = λ k l. absurd (let f : ⊥ = omega arith in f); above = λ k l h. absurd (let f : ⊥ = omega arith in f) }
 
-up_to : (xs : List ℕ) → Pairwise ◌<◌ xs → (i j : ℕ) → i ≤ j → j < length xs → get_or xs i 0 ≤ get_or xs j 0
+pub up_to : (xs : List ℕ) → Pairwise ◌<◌ xs → (i j : ℕ) → i ≤ j → j < length xs → get_or xs i 0 ≤ get_or xs j 0
 up_to xs p i j l h = ⊎_elim (λ b. let g = increasing_at xs p i j b h in omega arith) (λ e. let g = ap (λ k. get_or xs k 0) e in omega arith) (less_or_same i j l)
   where
     less_or_same : (i j : ℕ) → i ≤ j → (i < j) ⊎ (i ≡ j)

@@ -12,10 +12,9 @@ use Rattle.nz_spec.specs.Order.{Pairwise}
 use Rattle.nz_spec.proofs.ListLaws.{Each-contains}
 use Rattle.nz_pointed.proofs.ListLemmas.{each_at}
 use Rattle.nz_linear.proofs.Lists.{each_map, each_map2, each_append}
-use Rattle.nz_rays.specs.Words.{HasBit, IsWordOf, IsWordWith, IsColumn, AreColumnsOf, AreColumns, IsPlaceIn, AreNear, HaveFew, TellsCovered}
-use Rattle.nz_rays.specs.Crossings.{AreCommon, HasNoThird, IsThird, IsCovered, AreOnBothSides, FewAreCovered}
-use Rattle.nz_spec.specs.Vectors.{Vector}
-use Rattle.nz_rays.proofs.PlaceLemmas.{below_next, same_or_not, zip_at, zip_length, IsInBoth, common_list, fewer_within}
+use Rattle.nz_rays.specs.Words.{HasBit, IsWordOf, IsWordWith, IsColumn, AreColumnsOf, AreColumns, IsPlaceIn, AreBusy, AreNear, HaveFew, TellsCovered}
+use Rattle.nz_rays.specs.Crossings.{AreCommon, HasNoThird, IsThird}
+use Rattle.nz_rays.proofs.PlaceLemmas.{below_next, same_or_not, contains_at, zip_at, zip_length, IsInBoth, common_list, fewer_within}
 use Rattle.nz_rays.proofs.CutLemmas.{each_from_at}
 
 -- ---- a word with one place
@@ -162,9 +161,9 @@ below_all : (sets columns : List (List ℕ)) (place k : ℕ) → AreColumns sets
 below_all sets columns place k c l h = Each-contains (λ j. j < 64 * length columns) (get_or sets place []) k (each_at (Each (λ j. j < 64 * length columns)) [] sets place c.whole l) h
 
 pub counted_all : (columns : List (List ℕ)) (first second n missing needed : ℕ) → length columns ≤ n → IsCounted columns first second n missing needed → 0 < missing → HaveFew columns first second needed
-counted_all columns first second n missing needed l h m sets c lf ls common a =
-    let k = h sets c lf ls m common a.in_order (each_map (IsInBoth (get_or sets first []) (get_or sets second [])) (λ k. IsInBoth (get_or sets first []) (get_or sets second []) k × (k < 64 * n)) common
-    (λ k b. (b, let g = below_all sets columns first k c lf b.0 in omega arith)) a.only) in
+counted_all columns first second n missing needed l h m sets c lf ls common p e =
+    let k = h sets c lf ls m common p (each_map (IsInBoth (get_or sets first []) (get_or sets second [])) (λ k. IsInBoth (get_or sets first []) (get_or sets second []) k × (k < 64 * n)) common
+    (λ k b. (b, let g = below_all sets columns first k c lf b.0 in omega arith)) e) in
     omega arith
 
 -- ---- whether a third set has them all
@@ -253,23 +252,68 @@ columns_count sets columns place c l = place_in columns (length sets) place (col
 pub places_in : (sets columns : List (List ℕ)) (places : List ℕ) → AreColumns sets columns → Each (λ k. k < length sets) places → Each (λ k. IsPlaceIn k columns) places
 places_in sets columns places c e = each_map (λ k. k < length sets) (λ k. IsPlaceIn k columns) places (λ k l. columns_count sets columns k c l) e
 
--- ---- near places
-pub near_none : (columns : List (List ℕ)) (first needed : ℕ) (near : List ℕ) → near ≡ [] → AreNear columns 0 first needed near
-near_none columns first needed near e = subst (AreNear columns 0 first needed) (sym e) (record { within = tt; each = λ k l. absurd (let f : ⊥ = omega arith in f) })
+-- ---- busy places
+pub busy_none : (columns : List (List ℕ)) (needed : ℕ) (busy : List ℕ) → busy ≡ [] → AreBusy columns 0 needed busy
+busy_none columns needed busy e = subst (AreBusy columns 0 needed) (sym e) (record { within = tt; each = λ k l. absurd (let f : ⊥ = omega arith in f) })
 
-near_within : (near : List ℕ) (n : ℕ) → Each (λ k. k < n) near → Each (λ k. k < n + 1) near
-near_within near n e = each_map (λ k. k < n) (λ k. k < n + 1) near (λ k l. omega arith) e
+busy_within : (busy : List ℕ) (n : ℕ) → Each (λ k. k < n) busy → Each (λ k. k < n + 1) busy
+busy_within busy n e = each_map (λ k. k < n) (λ k. k < n + 1) busy (λ k l. omega arith) e
 
-pub near_push : (columns : List (List ℕ)) (n first needed : ℕ) (near more : List ℕ) → AreNear columns n first needed near → more ≡ near ++ (n ∷ []) → AreNear columns (n + 1) first needed more
-near_push columns n first needed near more h e = subst (AreNear columns (n + 1) first needed) (sym e) (record {
-  within = each_append (λ k. k < n + 1) near (n ∷ []) (near_within near n h.within) (omega arith, tt);
-  each = λ k l. ⊎_elim (λ b. ⊎_elim (λ c. inl (Contains-append_left near (n ∷ []) k c)) (λ f. inr f) (h.each k b)) (λ s. inl (subst (Contains (near ++ (n ∷ []))) (sym s) (Contains-push near n))) (below_next k n l);
+pub busy_push : (columns : List (List ℕ)) (n needed : ℕ) (busy more : List ℕ) → AreBusy columns n needed busy → more ≡ busy ++ (n ∷ []) → AreBusy columns (n + 1) needed more
+busy_push columns n needed busy more h e = subst (AreBusy columns (n + 1) needed) (sym e) (record {
+  within = each_append (λ k. k < n + 1) busy (n ∷ []) (busy_within busy n h.within) (omega arith, tt);
+  each = λ k l. ⊎_elim (λ b. ⊎_elim (λ c. inl (Contains-append_left busy (n ∷ []) k c)) (λ f. inr f) (h.each k b)) (λ s. inl (subst (Contains (busy ++ (n ∷ []))) (sym s) (Contains-push busy n))) (below_next k n l);
 })
 
-pub near_skip : (columns : List (List ℕ)) (n first needed : ℕ) (near : List ℕ) → AreNear columns n first needed near → HaveFew columns first n needed → AreNear columns (n + 1) first needed near
-near_skip columns n first needed near h few = record {
-  within = near_within near n h.within;
-  each = λ k l. ⊎_elim (λ b. h.each k b) (λ s. inr (subst (λ (j : ℕ). HaveFew columns first j needed) (sym s) few)) (below_next k n l);
+pub busy_skip : (columns : List (List ℕ)) (n needed : ℕ) (busy : List ℕ) → AreBusy columns n needed busy → HaveFew columns n n needed → AreBusy columns (n + 1) needed busy
+busy_skip columns n needed busy h few = record {
+  within = busy_within busy n h.within;
+  each = λ k l. ⊎_elim (λ b. h.each k b) (λ s. inr (subst (λ (j : ℕ). HaveFew columns j j needed) (sym s) few)) (below_next k n l);
+}
+
+-- a set of few places has few in common with any other
+few_second : (columns : List (List ℕ)) (first second needed : ℕ) → HaveFew columns second second needed → HaveFew columns first second needed
+few_second columns first second needed few sets c lf ls common p e = few sets c ls ls common p (each_map (IsInBoth (get_or sets first []) (get_or sets second [])) (IsInBoth (get_or sets second []) (get_or sets second [])) common (λ k b. (b.1, b.1)) e)
+
+few_first : (columns : List (List ℕ)) (first second needed : ℕ) → HaveFew columns first first needed → HaveFew columns first second needed
+few_first columns first second needed few sets c lf ls common p e = few sets c lf lf common p (each_map (IsInBoth (get_or sets first []) (get_or sets second [])) (IsInBoth (get_or sets first []) (get_or sets first [])) common (λ k b. (b.0, b.0)) e)
+
+pub all_far : (columns : List (List ℕ)) (first needed : ℕ) (places : List ℕ) → HaveFew columns first first needed → Each (λ k. HaveFew columns first k needed) places
+all_far columns first needed [] few = tt
+all_far columns first needed (k ∷ places) few = (few_first columns first k needed few, all_far columns first needed places few)
+
+-- ---- near places
+-- those that are near of some places
+pub record NearOf (columns : List (List ℕ)) (busy some : List ℕ) (first needed : ℕ) (near : List ℕ) : Type 0 where
+  pub within : Each (Contains busy) near
+  pub each : (k : ℕ) → Contains some k → Contains near k ⊎ HaveFew columns first k needed
+
+some_cases : (busy : List ℕ) (i x k : ℕ) → i < length busy → x ≡ get_or busy i 0 → Contains (take (i + 1) busy) k → Contains (take i busy) k ⊎ (x ≡ k)
+some_cases busy i x k l e c = Contains-push_cases (take i busy) x k (subst (λ us. Contains us k) (take_more busy i 0 l ∙ ap (λ j. take i busy ++ (j ∷ [])) (sym e)) c)
+
+pub near_none : (columns : List (List ℕ)) (busy : List ℕ) (first needed : ℕ) (near : List ℕ) → near ≡ [] → NearOf columns busy (take 0 busy) first needed near
+near_none columns busy first needed near e = subst (NearOf columns busy (take 0 busy) first needed) (sym e) (record { within = tt; each = λ k c. absurd (none busy k c) })
+  where
+    none : (s : List ℕ) (k : ℕ) → ¬ Contains (take 0 s) k
+    none [] k c = (let l = c.1 in let f : ⊥ = omega arith in f)
+    none (x ∷ s) k c = (let l = c.1 in let f : ⊥ = omega arith in f)
+
+pub near_push : (columns : List (List ℕ)) (busy : List ℕ) (i x first needed : ℕ) (near more : List ℕ) → i < length busy → x ≡ get_or busy i 0 → NearOf columns busy (take i busy) first needed near → more ≡ near ++ (x ∷ []) → NearOf columns busy (take (i + 1) busy) first needed more
+near_push columns busy i x first needed near more l e h m = subst (NearOf columns busy (take (i + 1) busy) first needed) (sym m) (record {
+  within = each_append (Contains busy) near (x ∷ []) h.within (contains_at busy i x l (sym e), tt);
+  each = λ k c. ⊎_elim (λ b. ⊎_elim (λ d. inl (Contains-append_left near (x ∷ []) k d)) (λ f. inr f) (h.each k b)) (λ s. inl (subst (Contains (near ++ (x ∷ []))) s (Contains-push near x))) (some_cases busy i x k l e c);
+})
+
+pub near_skip : (columns : List (List ℕ)) (busy : List ℕ) (i x first needed : ℕ) (near : List ℕ) → i < length busy → x ≡ get_or busy i 0 → NearOf columns busy (take i busy) first needed near → HaveFew columns first x needed → NearOf columns busy (take (i + 1) busy) first needed near
+near_skip columns busy i x first needed near l e h few = record {
+  within = h.within;
+  each = λ k c. ⊎_elim (λ b. h.each k b) (λ s. inr (subst (λ (j : ℕ). HaveFew columns first j needed) s few)) (some_cases busy i x k l e c);
+}
+
+pub near_all : (columns : List (List ℕ)) (busy : List ℕ) (i first needed : ℕ) (near : List ℕ) → length busy ≤ i → NearOf columns busy (take i busy) first needed near → (bound : ℕ) → AreBusy columns bound needed busy → AreNear columns bound first needed near
+near_all columns busy i first needed near l h bound b = record {
+  within = each_map (Contains busy) (λ k. k < bound) near (λ k c. Each-contains (λ j. j < bound) busy k b.within c) h.within;
+  each = λ k lk. ⊎_elim (λ c. h.each k (subst (λ us. Contains us k) (sym (take_all i busy l)) c)) (λ f. inr (few_second columns first k needed f)) (b.each k lk);
 }
 
 -- a third ray has as many places in common with the ray above as the two have, so it is near
@@ -279,17 +323,9 @@ no_third zeros columns near common above below needed c la p n m enough none k l
     (λ has. Each-contains (λ j. ¬ IsThird zeros common above below j) near k none has third)
     (λ few.
     let h = common_list (get_or zeros above []) (get_or zeros k []) p in
-    let less = few zeros c la lk h.common h.is_common in
+    let less = few zeros c la lk h.common h.is_common.in_order h.is_common.only in
     let all : Each (Contains h.common) common = each_map2 (IsInBoth (get_or zeros above []) (get_or zeros below [])) (Contains (get_or zeros k [])) (Contains h.common) common (λ j b t. h.is_common.each j (b.0, t)) m.only third.covers in
     let most = fewer_within common h.common m.in_order all in
     let f : ⊥ = omega (arith, less, most, enough) in
     f)
     (n.each k lk)
-
--- a pair on both sides that has few common places is covered
-pub few_is_covered : (values : Vector) (zeros columns : List (List ℕ)) (needed above below : ℕ) → FewAreCovered values zeros needed → AreColumns zeros columns → Each (Pairwise ◌<◌) zeros → length zeros ≡ length values → AreOnBothSides values above below → HaveFew columns above below needed → IsCovered zeros above below
-few_is_covered values zeros columns needed above below covered c p n s few =
-    let la : above < length zeros = (let w = s.above_within in omega arith) in
-    let lb : below < length zeros = (let w = s.below_within in omega arith) in
-    let h = common_list (get_or zeros above []) (get_or zeros below []) (each_at (Pairwise ◌<◌) [] zeros above p la) in
-    covered above below s h.common h.is_common (few zeros c la lb h.common h.is_common)

@@ -2,6 +2,7 @@
 use Rattle.std.specs.Prelude.{◌≡◌, ◌⊎◌, ℕ, ◌+◌, ◌*◌, ◌<◌, List, [], length, get_or, Contains, Bool, MatchBool}
 use Rattle.std.specs.List.{AllByRecursion as Each, AllZip}
 use Rattle.std.specs.Int.{bit_at}
+use Rattle.nz_spec.specs.Order.{Pairwise}
 use Rattle.nz_rays.specs.Crossings.{AreCommon, HasThird, IsThird}
 
 -- this bit of the word is set
@@ -38,7 +39,7 @@ IsPlaceIn place columns = Each (λ c. place < length c) columns
 
 -- the sets at these places, of which these are the columns, have fewer places in common than needed
 abbrev pub HaveFew : List (List ℕ) → ℕ → ℕ → ℕ → Type 0
-HaveFew columns first second needed = (sets : List (List ℕ)) → AreColumns sets columns → first < length sets → second < length sets → (common : List ℕ) → AreCommon sets first second common → length common < needed
+HaveFew columns first second needed = (sets : List (List ℕ)) → AreColumns sets columns → first < length sets → second < length sets → (common : List ℕ) → Pairwise ◌<◌ common → Each (λ k. Contains (get_or sets first []) k × Contains (get_or sets second []) k) common → length common < needed
 
 -- the answer says whether the set at the last place has all that the other two have in common
 abbrev pub TellsCovered : List (List ℕ) → ℕ → ℕ → ℕ → Bool → Type 0
@@ -54,6 +55,11 @@ TellsThird columns above below place answer = (sets : List (List ℕ)) → AreCo
 abbrev pub TellsThirdOf : List ℕ → List (List ℕ) → ℕ → ℕ → Bool → Type 0
 TellsThirdOf near columns above below answer = (sets : List (List ℕ)) → AreColumns sets columns → above < length sets → below < length sets → Each (λ k. k < length sets) near → (common : List ℕ) → AreCommon sets above below common
     → MatchBool answer (Each (λ k. ¬ IsThird sets common above below k) near) (HasThird sets common above below)
+
+-- the busy places: each other place below the bound has fewer places than needed
+pub record AreBusy (columns : List (List ℕ)) (bound needed : ℕ) (busy : List ℕ) : Type 0 where
+  pub within : Each (λ k. k < bound) busy
+  pub each : (k : ℕ) → k < bound → Contains busy k ⊎ HaveFew columns k k needed
 
 -- the places near the first: each other place below the bound has fewer places in common with it than needed
 pub record AreNear (columns : List (List ℕ)) (bound first needed : ℕ) (near : List ℕ) : Type 0 where

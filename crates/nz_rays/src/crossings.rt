@@ -1,12 +1,14 @@
 // The pairs of adjacent rays on both sides of a new row. Two rays are adjacent where no third one
 // is 0 at all the rows at which both are; this is read off the words of their zero sets.
-ghost use Rattle.std.specs.Prelude.{◌≡◌, pos, ℕ, List, ◌+◌, ◌<◌, ◌<ℤ◌, [], length, get_or, IfOk, MatchOption};
+ghost use Rattle.std.specs.Prelude.{◌≡◌, pos, ℕ, ℤ, List, ◌+◌, ◌<◌, ◌<ℤ◌, [], length, get_or, IfOk, MatchOption};
 ghost use Rattle.std.specs.List.{AllByRecursion as Each};
 ghost use Rattle.nz_spec.specs.Order.{Pairwise, IsListOf};
-ghost use Rattle.nz_rays.specs.Crossings.{AreCommon, HasNoThird, IsCovered, FewAreCovered, AreCrossingsBefore};
-ghost use Rattle.nz_rays.specs.Words.{AreColumns, IsPlaceIn, AreNear, TellsThird, TellsThirdOf};
+ghost use Rattle.nz_rays.specs.Crossings.{AreCommon, AreOnBothSides, HasNoThird, IsCovered, FewAreCovered, AreCrossingsBefore};
+ghost use Rattle.nz_rays.specs.Words.{IsPlaceIn, AreBusy, AreNear, TellsThird, TellsThirdOf};
+ghost use Rattle.nz_rays.specs.Shared.{AreSharedColumns};
 
-use crate::words::{Column, are_far, covers, have_few, near_places};
+use crate::sharing::negative_places;
+use crate::words::{Column, are_far, busy_places, covers, have_few, near_places};
 use crate::zero_sets::common;
 use nz_vec::{NoMemory, PlaceLists, Places, Row, Scalar, is_negative, is_positive};
 use std::alloc::Global;
@@ -17,22 +19,6 @@ pub(crate) struct Crossing {
     pub(crate) above: usize,
     pub(crate) below: usize,
     pub(crate) zeros: Places,
-}
-
-// The places at which the value is negative.
-fn negative_places<T: Scalar>(alloc: Global, values: &Row<T>) -> Result<Places, NoMemory>
-    ensures { IfOk result (IsListOf ◌<◌ (λ k. (k < length values.now) × (get_or values.now k (pos 0) <ℤ pos 0))) }
-{
-    let mut places = Places::new(alloc);
-    for place in 0..values.len() {
-        if is_negative(values.at(place)) {
-            match places.push(place) {
-                Ok(()) => {}
-                Err(refusal) => return Err(refusal),
-            }
-        }
-    }
-    Ok(places)
 }
 
 // Whether the set at this place, of neither ray of the pair, has all their common places.
@@ -80,7 +66,7 @@ fn crossing_of(
     requires above { above < length zeros.now }
     requires below { below < length zeros.now }
     requires sets { Each (Pairwise ◌<◌) zeros.now }
-    requires columns { AreColumns zeros.now columns.now }
+    requires columns { (values : List ℤ) × (AreOnBothSides values above below × AreSharedColumns values zeros.now columns.now) }
     requires near { AreNear columns.now (length zeros.now) above needed near.now }
     requires few { (common : List ℕ) → AreCommon zeros.now above below common → length common < needed → IsCovered zeros.now above below }
     ensures { IfOk result (λ o. MatchOption o (IsCovered zeros.now above below) (λ c. (c.above ≡ above) × (c.below ≡ below) × AreCommon zeros.now above below c.zeros × HasNoThird zeros.now c.zeros above below)) }
@@ -111,6 +97,7 @@ fn with_crossings_of<T: Scalar>(
     values: &Row<T>,
     zeros: &PlaceLists,
     columns: &[Column],
+    busy: &Places,
     needed: usize,
     above: usize,
     mut list: Vec<Crossing>,
@@ -119,12 +106,13 @@ fn with_crossings_of<T: Scalar>(
     requires positive { pos 0 <ℤ get_or values.now above (pos 0) }
     requires count { length zeros.now ≡ length values.now }
     requires sets { Each (Pairwise ◌<◌) zeros.now }
-    requires columns { AreColumns zeros.now columns.now }
+    requires columns { AreSharedColumns values.now zeros.now columns.now }
+    requires busy { AreBusy columns.now (length zeros.now) needed busy.now }
     requires few { FewAreCovered values.now zeros.now needed }
     requires before { AreCrossingsBefore values.now zeros.now above 0 list.items }
     ensures { IfOk result (λ v. AreCrossingsBefore values.now zeros.now (above + 1) 0 v.items) }
 {
-    let near = match near_places(alloc, columns, zeros.len(), above, needed) {
+    let near = match near_places(alloc, columns, busy, above, needed) {
         Ok(near) => near,
         Err(refusal) => return Err(refusal),
     };
@@ -156,7 +144,7 @@ pub(crate) fn crossings<T: Scalar>(
 ) -> Result<Vec<Crossing>, NoMemory>
     requires count { length zeros.now ≡ length values.now }
     requires sets { Each (Pairwise ◌<◌) zeros.now }
-    requires columns { AreColumns zeros.now columns.now }
+    requires columns { AreSharedColumns values.now zeros.now columns.now }
     requires few { FewAreCovered values.now zeros.now needed }
     ensures { IfOk result (λ v. AreCrossingsBefore values.now zeros.now (length values.now) 0 v.items) }
 {
@@ -164,11 +152,17 @@ pub(crate) fn crossings<T: Scalar>(
         Ok(places) => places,
         Err(refusal) => return Err(refusal),
     };
+    let busy = match busy_places(alloc, columns, zeros.len(), needed) {
+        Ok(places) => places,
+        Err(refusal) => return Err(refusal),
+    };
     let mut list = Vec::new(alloc);
     for above in 0..values.len() {
         if is_positive(values.at(above)) {
             if !are_far(columns, above, &below, needed) {
-                list = match with_crossings_of(alloc, values, zeros, columns, needed, above, list) {
+                list = match with_crossings_of(
+                    alloc, values, zeros, columns, &busy, needed, above, list,
+                ) {
                     Ok(list) => list,
                     Err(refusal) => return Err(refusal),
                 };

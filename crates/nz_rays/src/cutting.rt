@@ -10,7 +10,7 @@ ghost use Rattle.nz_rays.specs.Cuts.{IsKeptAt, IsSum, AreKeptZeros, AreSumZeros,
 ghost use Rattle.nz_rays.specs.Measures.{HasLargeRay, IsCrossingWithin};
 
 use crate::crossings::{Crossing, crossings};
-use crate::words::columns_of;
+use crate::sharing::shared_columns;
 use crate::zero_sets::{copied, extended};
 use nz_vec::{NoMemory, Num, PlaceLists, Places, Row, Rows, Scalar, is_negative, is_zero};
 use std::alloc::Global;
@@ -204,7 +204,7 @@ pub(crate) fn cut<T: Scalar>(
         Err(refusal) => return Err(Num::from(refusal)),
     };
     let needed = form.len().saturating_sub(2);
-    let columns = match columns_of(alloc, zeros, last) {
+    let columns = match shared_columns(alloc, &values, zeros, last) {
         Ok(columns) => columns,
         Err(refusal) => return Err(Num::from(refusal)),
     };

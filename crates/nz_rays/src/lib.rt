@@ -9,6 +9,7 @@ mod crossings;
 mod cutting;
 mod double;
 mod extreme;
+mod sharing;
 mod words;
 mod zero_sets;
 

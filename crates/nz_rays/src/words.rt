@@ -1,7 +1,7 @@
 // Sets of places as words of bits. Those of many sets stand in columns, one for each 64 places.
 ghost use Rattle.std.specs.Prelude.{◌≡◌, ℕ, ◌+◌, ◌*◌, ◌/◌, ◌<◌, List, length, IfOk, IsTrue};
 ghost use Rattle.std.specs.List.{AllByRecursion as Each};
-ghost use Rattle.nz_rays.specs.Words.{IsWordOf, IsWordWith, IsColumn, AreColumns, IsPlaceIn, AreNear, HaveFew, TellsCovered};
+ghost use Rattle.nz_rays.specs.Words.{IsWordOf, IsWordWith, IsColumn, AreColumns, IsPlaceIn, AreBusy, AreNear, HaveFew, TellsCovered};
 
 use nz_vec::{NoMemory, PlaceLists, Places};
 use std::alloc::Global;
@@ -118,6 +118,9 @@ pub(crate) fn are_far(columns: &[Column], first: usize, places: &Places, needed:
     requires places { Each (λ k. IsPlaceIn k columns.now) places.now }
     ensures { IsTrue result → Each (λ k. HaveFew columns.now first k needed) places.now }
 {
+    if have_few(columns, first, first, needed) {
+        return true;
+    }
     for index in 0..places.len() {
         if !have_few(columns, first, places.at(index), needed) {
             return false;
@@ -126,20 +129,43 @@ pub(crate) fn are_far(columns: &[Column], first: usize, places: &Places, needed:
     true
 }
 
-/// The places below `bound` of the sets with as many places in common with the first as needed.
-pub(crate) fn near_places(
+/// The places below `bound` of the sets with as many places as needed.
+pub(crate) fn busy_places(
     alloc: Global,
     columns: &[Column],
     bound: usize,
+    needed: usize,
+) -> Result<Places, NoMemory>
+    requires { Each (λ c. length c ≡ bound) columns.now }
+    ensures { IfOk result (AreBusy columns.now bound needed) }
+{
+    let mut busy = Places::new(alloc);
+    for place in 0..bound {
+        if !have_few(columns, place, place, needed) {
+            match busy.push(place) {
+                Ok(()) => {}
+                Err(refusal) => return Err(refusal),
+            }
+        }
+    }
+    Ok(busy)
+}
+
+/// Of the busy places those of the sets with as many places in common with the first as needed.
+pub(crate) fn near_places(
+    alloc: Global,
+    columns: &[Column],
+    busy: &Places,
     first: usize,
     needed: usize,
 ) -> Result<Places, NoMemory>
     requires first { IsPlaceIn first columns.now }
-    requires bound { Each (λ c. length c ≡ bound) columns.now }
-    ensures { IfOk result (AreNear columns.now bound first needed) }
+    requires busy { Each (λ k. IsPlaceIn k columns.now) busy.now }
+    ensures { IfOk result (λ near. (bound : ℕ) → AreBusy columns.now bound needed busy.now → AreNear columns.now bound first needed near) }
 {
     let mut near = Places::new(alloc);
-    for place in 0..bound {
+    for index in 0..busy.len() {
+        let place = busy.at(index);
         if !have_few(columns, first, place, needed) {
             match near.push(place) {
                 Ok(()) => {}

@@ -1,16 +1,15 @@
-use Rattle.std.proofs.Common.{◌≡◌, ℕ, ◌<◌, ◌<ℤ◌, pos, length, refl, sym, subst, arith}
-use Rattle.std.specs.List.{AllByRecursion as Each}
-use Rattle.nz_rays.proofs.WordLemmas.{columns_count, columns_wide}
+use Rattle.std.proofs.Common.{◌<◌, ◌<ℤ◌, pos, length, refl, subst, arith}
+use Rattle.nz_rays.proofs.CutSetLemmas.{shared_in, shared_places_in}
 use Rattle.nz_rays.proofs.PlaceLemmas.{not_below}
 use Rattle.nz_rays.proofs.CrossingLemmas.{crossings_skip, found_push, found_none, crossings_next}
 use Rattle.nz_rays.proofs.crossings.with_crossings_of.Goals as goal
 use Rattle.nz_rays.proofs.crossings.with_crossings_of.Goals.{then-is_negative+in-Ok-crossing_of+in-Some+in-Ok-push, then-is_negative+in-Ok-crossing_of+in-None, else-is_negative}
 
 pub near_places-requires-clause-first : goal.near_places-requires-clause-first
-near_places-requires-clause-first g c = columns_count c.args.zeros.now c.args.columns.now c.args.above c.requires.columns (omega (arith, c.requires.within, c.requires.count))
+near_places-requires-clause-first g c = shared_in c.args.values.now c.args.zeros.now c.args.columns.now c.requires.columns c.args.above (omega (arith, c.requires.within, c.requires.count))
 
-pub near_places-requires-clause-bound : goal.near_places-requires-clause-bound
-near_places-requires-clause-bound g c = subst (λ (n : ℕ). Each (λ w. length w ≡ n) c.args.columns.now) (sym c.len.ensures) (columns_wide c.args.zeros.now c.args.columns.now c.requires.columns)
+pub near_places-requires-clause-busy : goal.near_places-requires-clause-busy
+near_places-requires-clause-busy g c = shared_places_in c.args.values.now c.args.zeros.now c.args.columns.now c.requires.columns c.args.busy.now c.requires.busy.within
 
 pub loop-below-preserved : goal.loop-below-preserved
 loop-below-preserved g c =

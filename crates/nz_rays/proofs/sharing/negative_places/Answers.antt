@@ -1,7 +1,7 @@
 use Rattle.std.proofs.Common.{◌<ℤ◌, pos, get_or, length, ℕ, ◌∙◌, refl, subst, arith}
 use Rattle.nz_rays.proofs.PlaceLemmas.{range_push, range_skip, range_all, not_below}
-use Rattle.nz_rays.proofs.crossings.negative_places.Goals as goal
-use Rattle.nz_rays.proofs.crossings.negative_places.Goals.{then-is_negative+in-Ok, else-is_negative}
+use Rattle.nz_rays.proofs.sharing.negative_places.Goals as goal
+use Rattle.nz_rays.proofs.sharing.negative_places.Goals.{then-is_negative+in-Ok, else-is_negative}
 
 pub loop-place-preserved : goal.loop-place-preserved
 loop-place-preserved g c =
