@@ -1,5 +1,5 @@
 -- Candidates that no other one reduces.
-use Rattle.std.specs.Prelude.{◌≡◌, ℕ, ◌+◌, ◌<◌, ℤ, pos, ◌≤ℤ◌, List, length, map, slice_index_or, Contains}
+use Rattle.std.specs.Prelude.{◌≡◌, ℕ, ◌+◌, ◌<◌, pos, ◌≤ℤ◌, List, length, map, slice_index_or, Contains}
 use Rattle.std.specs.List.{AllByRecursion as Each}
 use Rattle.nz_spec.specs.Vectors.{Vector, dot, values_at, HasWidth, IsZero, IsNonzero}
 use Rattle.nz_spec.specs.Order.{IsLexBefore}

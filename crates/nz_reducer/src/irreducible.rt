@@ -7,7 +7,7 @@ ghost use Rattle.nz_vec.specs.Sums.{HasValueOutside};
 ghost use Rattle.nz_reducer.specs.Reducers.{AreSeparated, AreValued, IsUnreduced, IsNotFalling};
 
 use crate::valued::{Valued, with_values};
-use crate::{ListTable, Table};
+use crate::{DegreeTable, Table};
 use nz_vec::{NoMemory, Num, Row, Rows, Scalar, is_zero};
 use std::alloc::Global;
 
@@ -40,7 +40,7 @@ fn unreduced<T: Scalar>(
         Ok(()) => {}
         Err(_) => return Err(NoMemory),
     }
-    let mut table = ListTable::new(alloc, rows.len())?;
+    let mut table = DegreeTable::new(alloc, rows.len())?;
     let mut kept = Vec::new(alloc);
     for candidate in &list {
         if are_zero(&candidate.entries) {

@@ -1,11 +1,13 @@
-ghost use Rattle.std.specs.Prelude.{◌≡◌, pos, negsuc, [], ◌∷◌, IfOk};
+ghost use Rattle.std.specs.Prelude.{◌≡◌, pos, negsuc, [], ◌∷◌, length, IfOk};
+ghost use Rattle.std.specs.Rc.{rc_slice_items};
 ghost use Rattle.std.specs.List.{AllByRecursion as Each};
 ghost use Rattle.nz_spec.specs.Vectors.{HasWidth};
 
-use nz_reducer::{ListTable, Table, irreducibles};
+use nz_reducer::{DegreeTable, ListTable, Table, irreducibles};
 use nz_vec::{Row, Rows, Scalar};
 use std::alloc::Global;
 use std::process::Abort;
+use std::rc::RcSlice;
 use std::test::Fail;
 
 // The points of the half-open parallelepiped of (1, 3) and (2, 1), and these two; and what is left of them.
@@ -73,7 +75,7 @@ fn reduces<T: Scalar>(rt: &impl Abort, alloc: Global) -> Result<(), Fail> {
     Ok(())
 }
 
-fn table<T: Scalar>(alloc: Global) -> Result<ListTable<T>, Fail>
+fn list_table<T: Scalar>(alloc: Global) -> Result<ListTable<T>, Fail>
     ensures { IfOk result (λ t. t.columns ≡ 2) }
 {
     let mut table = ListTable::new(alloc, 2)?;
@@ -83,12 +85,81 @@ fn table<T: Scalar>(alloc: Global) -> Result<ListTable<T>, Fail>
     Ok(table)
 }
 
+fn degree_table<T: Scalar>(alloc: Global) -> Result<DegreeTable<T>, Fail>
+    ensures { IfOk result (λ t. t.columns ≡ 2) }
+{
+    let mut table = DegreeTable::new(alloc, 2)?;
+    for entries in &ENTRIES {
+        table.put(&row(alloc, entries[0], entries[1])?)?;
+    }
+    Ok(table)
+}
+
+// The slice of two values.
+fn slice<T: Scalar>(alloc: Global, first: i64, second: i64) -> Result<RcSlice<T>, Fail>
+    ensures { IfOk result (λ s. length (rc_slice_items s) ≡ 2) }
+{
+    let values = [T::of_i64(first), T::of_i64(second)];
+    match RcSlice::from_slice(alloc, values.as_slice()) {
+        Ok(slice) => Ok(slice),
+        Err(_) => Err(Fail::from("no memory")),
+    }
+}
+
+fn shared_table<T: Scalar>(alloc: Global) -> Result<DegreeTable<T>, Fail>
+    ensures { IfOk result (λ t. t.columns ≡ 2) }
+{
+    let mut table = DegreeTable::new(alloc, 2)?;
+    for entries in &ENTRIES {
+        table.put_shared(&slice(alloc, entries[0], entries[1])?)?;
+    }
+    Ok(table)
+}
+
 fn finds<T: Scalar>(rt: &impl Abort, alloc: Global) -> Result<(), Fail> {
-    let table = table::<T>(alloc)?;
+    let listed = list_table::<T>(alloc)?;
+    let summed = degree_table::<T>(alloc)?;
+    let shared = shared_table::<T>(alloc)?;
+    assert!(rt; summed.width() == 2 && shared.len() == 3);
     for (values, place) in SOUGHT {
         let values = row::<T>(alloc, values[0], values[1])?;
-        assert!(rt; table.first(&values) == place);
+        assert!(rt; listed.first(&values) == place);
+        assert!(rt; summed.first(&values) == place);
+        assert!(rt; shared.first(&values) == place);
     }
+    Ok(())
+}
+
+// A thousand entries with the sum 1000.
+fn level_table<T: Scalar>(alloc: Global) -> Result<DegreeTable<T>, Fail>
+    ensures { IfOk result (λ t. t.columns ≡ 2) }
+{
+    let mut table = DegreeTable::new(alloc, 2)?;
+    for i in 1..1001 {
+        table.put(&row(alloc, i, 1000 - i)?)?;
+    }
+    Ok(table)
+}
+
+// No entry with a larger sum than the values is compared.
+fn counts<T: Scalar>(rt: &impl Abort, alloc: Global) -> Result<(), Fail> {
+    let table = level_table::<T>(alloc)?;
+    assert!(rt; table.first_counted(&row(alloc, 1, 1)?) == (None, 0));
+    assert!(rt; table.first_counted(&row(alloc, 0, 1000)?) == (None, 1000));
+    assert!(rt; table.has_below(&row(alloc, 9, 995)?, T::of_i64(1000)));
+    assert!(rt; !table.has_below(&row(alloc, 9, 995)?, T::of_i64(999)));
+    Ok(())
+}
+
+// An entry whose sum is no value of the type is found among the others.
+fn finds_without_sum(rt: &impl Abort, alloc: Global) -> Result<(), Fail> {
+    let mut table = DegreeTable::<i64>::new(alloc, 2)?;
+    table.put(&row(alloc, 5, 5)?)?;
+    table.put(&row(alloc, i64::MAX, 1)?)?;
+    table.put(&row(alloc, i64::MIN, -1)?)?;
+    assert!(rt; table.first(&row(alloc, i64::MAX, 2)?) == Some(1));
+    assert!(rt; table.first(&row(alloc, i64::MAX, 0)?) == Some(2));
+    assert!(rt; table.first(&row(alloc, 0, -2)?) == None);
     Ok(())
 }
 
@@ -98,4 +169,11 @@ fn worked_rows(rt: HostRuntime) -> Result<(), Fail> {
     reduces::<i128>(&rt, rt.alloc())?;
     finds::<i64>(&rt, rt.alloc())?;
     finds::<i128>(&rt, rt.alloc())
+}
+
+#[test]
+fn tables_by_sums(rt: HostRuntime) -> Result<(), Fail> {
+    counts::<i64>(&rt, rt.alloc())?;
+    counts::<i128>(&rt, rt.alloc())?;
+    finds_without_sum(&rt, rt.alloc())
 }

@@ -1,0 +1,32 @@
+use Rattle.std.proofs.Common.{◌≡◌, ◌<◌, length, map, take, sym, ap, ◌∙◌, subst}
+use Rattle.std.specs.List.{AllByRecursion as Each}
+use Rattle.std.specs.Prelude.{Some, MatchBool}
+use Rattle.std.specs.Rc.{rc_slice_items}
+use Rattle.nz_spec.specs.Order.{Pairwise}
+use Rattle.nz_reducer.specs.Tables.{TableLists, HasBelow}
+use Rattle.nz_reducer.specs.Marks.{RisesTo, IsReach, HasBelowAmong}
+use Rattle.nz_reducer.proofs.TableLemmas.{long_entries, taken_within, below_among, among_below, either_way}
+use Rattle.nz_reducer.proofs.degree_table.DegreeTable.has_below.Goals as goal
+
+pub reach-reached-requires : goal.reach-reached-requires
+reach-reached-requires g c = subst (Pairwise (λ a b. RisesTo g.T.Scalar.integer a.sum b.sum)) (sym c.as_slice.ensures.value) c.self.invariant.1.order
+
+pub is_any_under-requires-clause-wide : goal.is_any_under-requires-clause-wide
+is_any_under-requires-clause-wide g c = subst (Each (λ e. length (rc_slice_items e) ≡ length c.args.values.now)) (sym c.as_slice-2.ensures.value) (long_entries g.T.Scalar.integer rc_slice_items c.self.inside.entries.items c.self.inside.columns (length c.args.values.now) c.self.invariant.0 (c.requires ∙ sym (ap (λ (t : TableLists). t.columns) c.self.view_is)))
+
+pub is_any_under-requires-clause-inside : goal.is_any_under-requires-clause-inside
+is_any_under-requires-clause-inside g c =
+    subst (λ es. Each (λ m. m.place < length es) (take c.reach-reached.result c.deref.result.now)) (sym c.as_slice-2.ensures.value)
+    (subst (λ ms. Each (λ m. m.place < length c.self.inside.entries.items) (take c.reach-reached.result ms)) (sym c.deref.ensures.value)
+    (taken_within g.T.Scalar.integer g.T.Scalar.fits (λ m. m.sum) (λ m. m.place) (λ e. map g.T.Scalar.integer (rc_slice_items e)) c.self.inside.entries.items c.self.inside.marks.items c.self.invariant.1 c.reach-reached.result))
+
+pub returns : goal.returns
+returns g c =
+    let es = c.self.inside.entries.items in
+    let ms = c.self.inside.marks.items in
+    let n = c.reach-reached.result in
+    let r = subst (λ ks. IsReach g.T.Scalar.integer (λ m. m.sum) ks (Some c.args.most) n) c.as_slice.ensures.value c.reach-reached.ensures in
+    let h = subst (λ xs. MatchBool c.is_any_under.result (HasBelowAmong (λ m. m.sum) (λ m. m.place) (map (λ e. map g.T.Scalar.integer (rc_slice_items e)) xs) c.args.values.now (take n ms)) (¬ HasBelowAmong (λ m. m.sum) (λ m. m.place) (map (λ e. map g.T.Scalar.integer (rc_slice_items e)) xs) c.args.values.now (take n ms))) c.as_slice-2.ensures.value
+    (subst (λ ks. MatchBool c.is_any_under.result (HasBelowAmong (λ m. m.sum) (λ m. m.place) (map (λ e. map g.T.Scalar.integer (rc_slice_items e)) c.as_slice-2.result.now) c.args.values.now (take n ks)) (¬ HasBelowAmong (λ m. m.sum) (λ m. m.place) (map (λ e. map g.T.Scalar.integer (rc_slice_items e)) c.as_slice-2.result.now) c.args.values.now (take n ks))) c.deref.ensures.value c.is_any_under.ensures) in
+    subst (λ rs. MatchBool c.is_any_under.result (HasBelow g.T.Scalar.fits rs c.args.values.now (g.T.Scalar.integer c.args.most)) (¬ HasBelow g.T.Scalar.fits rs c.args.values.now (g.T.Scalar.integer c.args.most))) (ap (λ (t : TableLists). t.rows) c.self.view_is)
+    (either_way c.is_any_under.result _ _ (below_among g.T.Scalar.integer g.T.Scalar.fits (λ m. m.sum) (λ m. m.place) (map (λ e. map g.T.Scalar.integer (rc_slice_items e)) es) ms c.self.invariant.1 c.args.values.now c.args.most n r) (among_below g.T.Scalar.integer g.T.Scalar.fits (λ m. m.sum) (λ m. m.place) (map (λ e. map g.T.Scalar.integer (rc_slice_items e)) es) ms c.self.invariant.1 c.args.values.now c.args.most n r) h)

@@ -1,0 +1,72 @@
+-- Marks of the entries of a table, in the order of their sums.
+use Rattle.std.specs.Prelude.{◌≡◌, ◌≢◌, ⊤, ℕ, ◌<◌, ◌≤◌, ℤ, pos, negsuc, ◌≤ℤ◌, List, [], length, map, take, drop, slice_index_or, Option, Some, None, Contains}
+use Rattle.std.specs.List.{AllByRecursion as Each}
+use Rattle.nz_spec.specs.Vectors.{Vector}
+use Rattle.nz_spec.specs.Order.{Pairwise, ListsOnce}
+use Rattle.nz_order.specs.Boxes.{IsBelow}
+use Rattle.nz_reducer.specs.Tables.{total, HasSum}
+
+-- the sum of the values; none exactly where they have none in the type
+abbrev pub IsSum : {T : Type 0} → (T → ℤ) → (ℤ → Type 0) → Vector → Option T → Type 0
+IsSum integer fits xs None = ¬ HasSum fits xs
+IsSum integer fits xs (Some s) = HasSum fits xs × (integer s ≡ total xs)
+
+-- an entry with the first sum may stand before one with the second: those without a sum stand in front
+abbrev pub RisesTo : {T : Type 0} → (T → ℤ) → Option T → Option T → Type 0
+RisesTo integer None b = ⊤
+RisesTo integer (Some a) None = ⊥
+RisesTo integer (Some a) (Some b) = integer a ≤ℤ integer b
+
+-- an entry with the first sum is compared in a search for values with the second
+abbrev pub IsReached : {T : Type 0} → (T → ℤ) → Option T → Option T → Type 0
+IsReached integer a None = ⊤
+IsReached integer None (Some b) = ⊤
+IsReached integer (Some a) (Some b) = integer a ≤ℤ integer b
+
+-- one mark for each entry, with its place and its sum, in the order of the sums
+pub record AreMarks {T Item : Type 0} (integer : T → ℤ) (fits : ℤ → Type 0) (sum : Item → Option T) (place : Item → ℕ) (entries : List Vector) (marks : List Item) : Type 0 where
+  pub order : Pairwise (λ a b. RisesTo integer (sum a) (sum b)) marks
+  pub sums : Each (λ m. IsSum integer fits (slice_index_or entries (place m) []) (sum m)) marks
+  pub places : ListsOnce (λ k. k < length entries) (map place marks)
+
+-- this sum can stand here: no sum before it is greater, and no one after it is less
+pub record IsPosition {T Item : Type 0} (integer : T → ℤ) (sum : Item → Option T) (marks : List Item) (new : Option T) (index : ℕ) : Type 0 where
+  pub inside : index ≤ length marks
+  pub before : Each (λ m. RisesTo integer (sum m) new) (take index marks)
+  pub after : Each (λ m. RisesTo integer new (sum m)) (drop index marks)
+
+-- the marks before this index are reached, and no others
+pub record IsReach {T Item : Type 0} (integer : T → ℤ) (sum : Item → Option T) (marks : List Item) (searched : Option T) (index : ℕ) : Type 0 where
+  pub inside : index ≤ length marks
+  pub reached : Each (λ m. IsReached integer (sum m) searched) (take index marks)
+  pub beyond : Each (λ m. ¬ IsReached integer (sum m) searched) (drop index marks)
+
+-- of the entries at the tried places, the least place of one that is at most the values, or else the number of entries; and how many of them were compared
+pub record IsSearched (entries : List Vector) (values : Vector) (tried : List ℕ) (first number : ℕ) : Type 0 where
+  pub below : first < length entries → IsBelow (slice_index_or entries first []) values
+  pub inside : first ≤ length entries
+  pub least : Each (λ k. k < first → ¬ IsBelow (slice_index_or entries k []) values) tried
+  pub compared : List ℕ
+  pub different : Pairwise ◌≢◌ compared
+  pub among : Each (Contains tried) compared
+  pub size : length compared ≡ number
+  pub found : first < length entries → Contains compared first
+  pub all : first ≡ length entries → Each (Contains compared) tried
+
+-- one of the entries with these marks has a sum and is at most the values
+pub record HasBelowAmong {T Item : Type 0} (sum : Item → Option T) (place : Item → ℕ) (entries : List Vector) (values : Vector) (marks : List Item) : Type 0 where
+  pub mark : Item
+  pub listed : Contains marks mark
+  pub value : T
+  pub summed : sum mark ≡ Some value
+  pub below : IsBelow (slice_index_or entries (place mark) []) values
+
+-- the larger of a number and 0
+abbrev pub rise : ℤ → ℤ
+rise (pos n) = pos n
+rise (negsuc n) = pos 0
+
+-- the smaller of a number and 0
+abbrev pub fall : ℤ → ℤ
+fall (pos n) = pos 0
+fall (negsuc n) = negsuc n
