@@ -3,8 +3,9 @@ use nz_words::{RunOrder, WatchChoice, WordsRefusal, order, watch_choice};
 use std::alloc::Global;
 use std::test::Fail;
 
-// Words with `|` between them, and their order as text: project, limit, whether stages are printed, after how many the run stops, goals.
-const CASES: [(&str, &str); 50] = [
+// Words with `|` between them, and their order as text: project, limit, whether stages are printed, after how many the run stops, the
+// side of a made file where there is one, goals.
+const CASES: [(&str, &str); 58] = [
     ("", "usage"),
     ("p", "p 100000 false None"),
     ("p|q", "usage"),
@@ -25,8 +26,19 @@ const CASES: [(&str, &str); 50] = [
     ),
     ("--Verbose|--Verbose|p", "usage"),
     ("-x|p", "usage"),
+    ("--Make|0|p", "usage"),
+    ("--Make|1|p", "p 100000 false None made 1"),
+    ("--Make|20|p.in", "p 100000 false None made 20"),
+    ("--Make=150|p", "p 100000 false None made 150"),
     ("--Make|151|p", "usage"),
-    ("--Make|5|p", "usage"),
+    ("--Make|20|--Make=20|p", "usage"),
+    ("--Make|p", "usage"),
+    ("--Make=|p", "usage"),
+    ("p|--Make", "usage"),
+    (
+        "--Make|5|--Stages|2|--DualMode|p",
+        "p 100000 false Some(2) made 5 DualMode",
+    ),
     ("--Stages|3|--Verbose|p", "p 100000 true Some(3)"),
     ("--Stages|0|p", "p 100000 false Some(0)"),
     ("--Stages=1000000|p", "p 100000 false Some(1000000)"),
@@ -77,6 +89,10 @@ fn shown(alloc: Global, order: &RunOrder) -> Result<String, Fail> {
     let verbose = order.verbose;
     let stages = order.stages;
     let mut text = format!(in alloc; "{project} {limit} {verbose} {stages:?}")?;
+    match order.make {
+        Some(side) => text = format!(in alloc; "{text} made {side}")?,
+        None => {}
+    }
     for place in 0..order.goals.len() {
         let goal = order.goals.at(place);
         text = format!(in alloc; "{text} {goal:?}")?;

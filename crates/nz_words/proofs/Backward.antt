@@ -8,7 +8,7 @@ use Rattle.clap.specs.Walk.{Row, Rule, Walk, option, settled_rows, walked, arg_b
 use Rattle.clap.specs.Faults.{settle_fault, turn_fault, walk_fault, long_fault, flags_fault}
 use Rattle.clap.specs.declared.error.kind.ErrorKind.TheVariants as kind
 use Rattle.nz_vec.specs.Texts.{Text}
-use Rattle.nz_words.specs.Parts.{Flag, Setting, Limit, Stages, Part, Flagged, Valued, Named, flag_word, setting_word, hyphens, AreRead}
+use Rattle.nz_words.specs.Parts.{Flag, Setting, Limit, Stages, Make, Part, Flagged, Valued, Named, flag_word, setting_word, hyphens, AreRead}
 use Rattle.nz_words.proofs.Walking.{filled, shape, row_of, Pending, nothing, value_waits, name_waits, parts_of, pending_of, held_at, open_at, waits_at, ended_at, none_before, none_behind, not_again, used_new}
 use Rattle.nz_words.proofs.Steps.{IsPlain, flag_turn, flag_walk, flag_value, joined_turn, joined_walk, waits_turn, waits_walk, nothing_settles, value_walk, name_turn, name_walk, stray_turn, end_walk, behind_turn, behind_walk, behind_stray}
 use Rattle.nz_words.proofs.Lexing.{LongWord, bare, joined, long_word_is, Named_by, no_key, flag_key, setting_key, named_by}
@@ -237,8 +237,10 @@ stuck_at rows o k = record { held = held_at rows (Some (setting_word o, [])); wa
 stuck_turn : (o : Setting) (w : Text) (rows : List Row) (k : ℕ) (b : Bool) → (1 == k) ≡ b → turn_fault shape [] (stuck_at rows o k) w ≡ [] → ⊥
 stuck_turn Limit w rows k true e h = let bad = rw e at h in absurd cc
 stuck_turn Stages w rows k true e h = let bad = rw e at h in absurd cc
+stuck_turn Make w rows k true e h = let bad = rw e at h in absurd cc
 stuck_turn Limit w rows k false e h = let bad = rw e at h in absurd cc
 stuck_turn Stages w rows k false e h = let bad = rw e at h in absurd cc
+stuck_turn Make w rows k false e h = let bad = rw e at h in absurd cc
 
 stuck_walk : (o : Setting) (rows : List Row) (k : ℕ) → walked filled [] (waits_at rows o k) hyphens ≡ stuck_at rows o k
 unfolding walked

@@ -15,7 +15,7 @@ use Rattle.nz_vec.specs.Texts.{Text}
 use Rattle.nz_input.specs.declared.kind.Goal.{Goal}
 use Rattle.nz_input.specs.declared.kind.Goal.TheVariants.{HilbertBasis, ExtremeRays, SupportHyperplanes, Deg1Elements, ModuleGenerators, Triangulation, DualMode, PrimalMode}
 use Rattle.nz_input.specs.Words.{goal_word}
-use Rattle.nz_words.specs.Parts.{Flag, OfGoal, Verbose, Limit, Stages, Part, Flagged, Valued, Named, flag_word, setting_word, label_of, value_of, given}
+use Rattle.nz_words.specs.Parts.{Flag, OfGoal, Verbose, Limit, Stages, Make, Part, Flagged, Valued, Named, flag_word, setting_word, label_of, value_of, given}
 use Rattle.nz_words.specs.Orders.{GivenData, given_by, all_goals}
 use Rattle.nz_words.specs.Rules.{given_in, is_on, IsFlagIn, AreFlags}
 use Rattle.nz_words.proofs.Walking.{filled, row_of, at_new}
@@ -135,16 +135,23 @@ name_is_given parts h = rw (look_for (codes "PROJECT") parts) (go (pick (codes "
 
 -- ---- flags
 
-no_flag : (f : Flag) → (bytes_eq (codes "Limit") (flag_word f) || (bytes_eq (codes "Stages") (flag_word f) || bytes_eq (codes "PROJECT") (flag_word f))) ≡ false
-no_flag (OfGoal HilbertBasis) = refl
-no_flag (OfGoal ExtremeRays) = refl
-no_flag (OfGoal SupportHyperplanes) = refl
-no_flag (OfGoal Deg1Elements) = refl
-no_flag (OfGoal ModuleGenerators) = refl
-no_flag (OfGoal Triangulation) = refl
-no_flag (OfGoal DualMode) = refl
-no_flag (OfGoal PrimalMode) = refl
-no_flag Verbose = refl
+-- no option and no name has the word of a flag
+record IsNoOther (word : Text) : Type 0 where
+  limit : bytes_eq (codes "Limit") word ≡ false
+  stages : bytes_eq (codes "Stages") word ≡ false
+  make : bytes_eq (codes "Make") word ≡ false
+  project : bytes_eq (codes "PROJECT") word ≡ false
+
+no_other : (f : Flag) → IsNoOther (flag_word f)
+no_other (OfGoal HilbertBasis) = record { limit = refl; stages = refl; make = refl; project = refl }
+no_other (OfGoal ExtremeRays) = record { limit = refl; stages = refl; make = refl; project = refl }
+no_other (OfGoal SupportHyperplanes) = record { limit = refl; stages = refl; make = refl; project = refl }
+no_other (OfGoal Deg1Elements) = record { limit = refl; stages = refl; make = refl; project = refl }
+no_other (OfGoal ModuleGenerators) = record { limit = refl; stages = refl; make = refl; project = refl }
+no_other (OfGoal Triangulation) = record { limit = refl; stages = refl; make = refl; project = refl }
+no_other (OfGoal DualMode) = record { limit = refl; stages = refl; make = refl; project = refl }
+no_other (OfGoal PrimalMode) = record { limit = refl; stages = refl; make = refl; project = refl }
+no_other Verbose = record { limit = refl; stages = refl; make = refl; project = refl }
 
 one_default : (f : Flag) → option_and_then row_text (default_look (flag_word f) filled) ≡ Some (codes "false")
 one_default (OfGoal HilbertBasis) = refl
@@ -160,18 +167,10 @@ one_default Verbose = refl
 -- a part with the word of a flag is that flag
 flag_value_is : (f : Flag) (p : Part) → bytes_eq (label_of p) (flag_word f) ≡ true → value_of p ≡ codes "true"
 flag_value_is f (Flagged g) e = refl
-flag_value_is f (Valued Limit v) e = let bad = rw e at (no_flag f) in absurd cc
-flag_value_is f (Valued Stages v) e = let bad = rw e at (no_flag f) in absurd (third (bytes_eq (codes "Limit") (flag_word f)) (bytes_eq (codes "PROJECT") (flag_word f)) bad)
-  where
-    third : (a b : Bool) → (a || (true || b)) ≡ false → ⊥
-    third true b h = absurd cc
-    third false b h = absurd cc
-flag_value_is f (Named n) e = let bad = rw e at (no_flag f) in absurd (last (bytes_eq (codes "Limit") (flag_word f)) (bytes_eq (codes "Stages") (flag_word f)) bad)
-  where
-    last : (a b : Bool) → (a || (b || true)) ≡ false → ⊥
-    last true b h = absurd cc
-    last false true h = absurd cc
-    last false false h = absurd cc
+flag_value_is f (Valued Limit v) e = let bad = sym e ∙ (no_other f).limit in absurd cc
+flag_value_is f (Valued Stages v) e = let bad = sym e ∙ (no_other f).stages in absurd cc
+flag_value_is f (Valued Make v) e = let bad = sym e ∙ (no_other f).make in absurd cc
+flag_value_is f (Named n) e = let bad = sym e ∙ (no_other f).project in absurd cc
 
 -- what is found of a flag
 abbrev flag_text : Option Text → Text
@@ -205,8 +204,8 @@ filter_same : (p q : Goal → Bool) (gs : List Goal) → ((g : Goal) → p g ≡
 filter_same p q [] same = refl
 filter_same p q (g ∷ gs) same = rw (same g, filter_same p q gs same) refl
 
-abbrev made : Option Text → List Goal → Bool → Option Text → Bool → Option Text → GivenData
-made n g b l v s = record { name = n; goals = g; both_modes = b; limit = l; verbose = v; stages = s }
+abbrev made : Option Text → List Goal → Bool → Option Text → Bool → Option Text → Option Text → GivenData
+made n g b l v s m = record { name = n; goals = g; both_modes = b; limit = l; verbose = v; stages = s; make = m }
 
 pub given_for : (parts : List Part) → given_in (rows_for parts) ≡ given_by parts
 given_for parts =
@@ -214,10 +213,11 @@ given_for parts =
     let name : first_of (codes "PROJECT") (rows_for parts) ≡ given (codes "PROJECT") parts = first_for (codes "PROJECT") parts refl in
     let limit : first_of (setting_word Limit) (rows_for parts) ≡ given (setting_word Limit) parts = first_for (setting_word Limit) parts refl in
     let stages : first_of (setting_word Stages) (rows_for parts) ≡ given (setting_word Stages) parts = first_for (setting_word Stages) parts refl in
+    let make : first_of (setting_word Make) (rows_for parts) ≡ given (setting_word Make) parts = first_for (setting_word Make) parts refl in
     let dual : is_on (goal_word DualMode) (rows_for parts) ≡ is_some (given (goal_word DualMode) parts) = on_for (OfGoal DualMode) parts in
     let primal : is_on (goal_word PrimalMode) (rows_for parts) ≡ is_some (given (goal_word PrimalMode) parts) = on_for (OfGoal PrimalMode) parts in
     let verbose : is_on (flag_word Verbose) (rows_for parts) ≡ is_some (given (flag_word Verbose) parts) = on_for Verbose parts in
-    same_data _ _ _ _ _ _ _ _ _ _ _ _ name goals (ap₂ (λ (a b : Bool). a && b) dual primal) limit verbose stages
+    same_data _ _ _ _ _ _ _ _ _ _ _ _ _ _ name goals (ap₂ (λ (a b : Bool). a && b) dual primal) limit verbose stages make
   where
-    same_data : (n n' : Option Text) (g g' : List Goal) (b b' : Bool) (l l' : Option Text) (v v' : Bool) (s s' : Option Text) → n ≡ n' → g ≡ g' → b ≡ b' → l ≡ l' → v ≡ v' → s ≡ s' → made n g b l v s ≡ made n' g' b' l' v' s'
-    same_data n n' g g' b b' l l' v v' s s' en eg eb el ev es = rw (en, eg, eb, el, ev, es) refl
+    same_data : (n n' : Option Text) (g g' : List Goal) (b b' : Bool) (l l' : Option Text) (v v' : Bool) (s s' m m' : Option Text) → n ≡ n' → g ≡ g' → b ≡ b' → l ≡ l' → v ≡ v' → s ≡ s' → m ≡ m' → made n g b l v s m ≡ made n' g' b' l' v' s' m'
+    same_data n n' g g' b b' l l' v v' s s' m m' en eg eb el ev es em = rw (en, eg, eb, el, ev, es, em) refl

@@ -11,8 +11,8 @@ use Rattle.clap.specs.Faults.{fault_of, level_fault, default_fault, given_defaul
 use Rattle.clap.specs.Kinds.{Kinds}
 use Rattle.clap.proofs.FaultLemmas.{leaf_fault}
 use Rattle.nz_vec.specs.Texts.{Text}
-use Rattle.nz_words.specs.Parts.{Setting, Limit, Stages, Part, Flagged, Valued, Named, setting_word, label_of, value_of, given, AreRead, NoneTwice}
-use Rattle.nz_words.specs.Orders.{OrderData, GivenData, given_by, BeginsWithDash, IsLimit, AreStages, IsOrderOf, IsOrder}
+use Rattle.nz_words.specs.Parts.{Setting, Limit, Stages, Make, Part, Flagged, Valued, Named, setting_word, label_of, value_of, given, AreRead, NoneTwice}
+use Rattle.nz_words.specs.Orders.{OrderData, GivenData, given_by, BeginsWithDash, IsLimit, IsOptional, IsOrderOf, IsOrder}
 use Rattle.nz_words.specs.Rules.{command_app, given_in, AreFlags}
 use Rattle.nz_words.proofs.Walking.{Key, on, set, project, rule_for, keys, filled, shape, row_of, nothing, open_at, none_before, none_behind, none_both}
 use Rattle.nz_words.proofs.Steps.{IsPlain}
@@ -111,16 +111,17 @@ limit_plain : (text : Option Text) (n : ℕ) (v : Text) → IsLimit text n → t
 limit_plain None n v h e = absurd cc
 limit_plain (Some t) n v h e = let same : t ≡ v = cc in subst IsPlain same (undashed_is_plain t (digits_undashed t h.digits))
 
-stages_plain : (text : Option Text) (n : Option ℕ) (v : Text) → AreStages text n → text ≡ Some v → IsPlain v
-stages_plain None n v h e = absurd cc
-stages_plain (Some t) n v h e = let same : t ≡ v = cc in subst IsPlain same (undashed_is_plain t (digits_undashed t h.2.digits))
+optional_plain : (low high : ℕ) (text : Option Text) (n : Option ℕ) (v : Text) → IsOptional low high text n → text ≡ Some v → IsPlain v
+optional_plain low high None n v h e = absurd cc
+optional_plain low high (Some t) n v h e = let same : t ≡ v = cc in subst IsPlain same (undashed_is_plain t (digits_undashed t h.2.digits))
 
 order_fine : (parts : List Part) (order : OrderData) → NoneTwice parts → IsOrderOf (given_by parts) order → AreFine parts
 order_fine parts order once h = all_fine parts once values names
   where
     values : (o : Setting) (v : Text) → given (setting_word o) parts ≡ Some v → IsPlain v
     values Limit v e = limit_plain _ order.limit v h.limit e
-    values Stages v e = stages_plain _ order.stages v h.stages e
+    values Stages v e = optional_plain 0 1000000 _ order.stages v h.stages e
+    values Make v e = optional_plain 1 150 _ order.make v h.make e
 
     names : (n : Text) → given (codes "PROJECT") parts ≡ Some n → IsPlain n
     names n e = let both : Some h.word ≡ Some n = sym h.named ∙ e in let same : h.word ≡ n = cc in subst IsPlain same (undashed_is_plain h.word h.names.no_dash)

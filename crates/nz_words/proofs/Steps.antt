@@ -10,7 +10,7 @@ use Rattle.clap.specs.declared.error.kind.ErrorKind.TheVariants as kind
 use Rattle.clap.proofs.OnLiterals.{clap_on_literals}
 use Rattle.nz_vec.specs.Texts.{Text}
 use Rattle.nz_input.specs.declared.kind.Goal.TheVariants.{HilbertBasis, ExtremeRays, SupportHyperplanes, Deg1Elements, ModuleGenerators, Triangulation, DualMode, PrimalMode}
-use Rattle.nz_words.specs.Parts.{Flag, OfGoal, Verbose, Setting, Limit, Stages, flag_word, setting_word, hyphens}
+use Rattle.nz_words.specs.Parts.{Flag, OfGoal, Verbose, Setting, Limit, Stages, Make, flag_word, setting_word, hyphens}
 use Rattle.nz_words.proofs.Walking.{filled, filled_flag, filled_setting, shape, Pending, nothing, value_waits, name_waits, pending_of, held_at, open_at, waits_at, ended_at}
 
 -- the kinds of what waits
@@ -62,26 +62,31 @@ pub joined_turn : (o : Setting) (v : Text) (rows : List Row) (p : Pending) (k : 
 unfolding clap_on_literals
 joined_turn Limit v rows p k = refl
 joined_turn Stages v rows p k = refl
+joined_turn Make v rows p k = refl
 
 pub joined_walk : (o : Setting) (v : Text) (rows : List Row) (p : Pending) (k : ℕ) → walked filled [] (open_at rows p k) (hyphens ++ setting_word o ++ 61 ∷ v) ≡ open_at (used (filled_setting (setting_word o)) (v ∷ []) (settled_rows filled (pending_of p) rows)) nothing k
 unfolding clap_on_literals
 joined_walk Limit v rows p k = refl
 joined_walk Stages v rows p k = refl
+joined_walk Make v rows p k = refl
 
 pub waits_turn : (o : Setting) (rows : List Row) (p : Pending) (k : ℕ) → turn_fault shape [] (open_at rows p k) (hyphens ++ setting_word o) ≡ or_else (settles rows (pending_of p)) []
 unfolding clap_on_literals
 waits_turn Limit rows p k = refl
 waits_turn Stages rows p k = refl
+waits_turn Make rows p k = refl
 
 pub waits_walk : (o : Setting) (rows : List Row) (p : Pending) (k : ℕ) → walked filled [] (open_at rows p k) (hyphens ++ setting_word o) ≡ waits_at (settled_rows filled (pending_of p) rows) o k
 unfolding clap_on_literals
 waits_walk Limit rows p k = refl
 waits_walk Stages rows p k = refl
+waits_walk Make rows p k = refl
 
 -- an option that waits without a value cannot be used
 pub nothing_settles : (o : Setting) (rows : List Row) → settles rows (Some (setting_word o, [])) ≡ kind.InvalidValue ∷ []
 nothing_settles Limit rows = refl
 nothing_settles Stages rows = refl
+nothing_settles Make rows = refl
 
 -- ---- a word that is no option
 
@@ -117,17 +122,20 @@ plain_fault wt w rows p s h = elim h.no_short [
 pub value_turn : (o : Setting) (w : Text) (rows : List Row) (k : ℕ) → IsPlain w → turn_fault shape [] (waits_at rows o k) w ≡ []
 value_turn Limit w rows k h = rw (plain_met (option (setting_word Limit)) w k rows (Some (setting_word Limit, [])) refl h, plain_fault (option (setting_word Limit)) w rows (Some (setting_word Limit, [])) refl h) refl
 value_turn Stages w rows k h = rw (plain_met (option (setting_word Stages)) w k rows (Some (setting_word Stages, [])) refl h, plain_fault (option (setting_word Stages)) w rows (Some (setting_word Stages, [])) refl h) refl
+value_turn Make w rows k h = rw (plain_met (option (setting_word Make)) w k rows (Some (setting_word Make, [])) refl h, plain_fault (option (setting_word Make)) w rows (Some (setting_word Make, [])) refl h) refl
 
 pub value_walk : (o : Setting) (w : Text) (rows : List Row) (k : ℕ) → IsPlain w → walked filled [] (waits_at rows o k) w ≡ open_at rows (value_waits o w) k
 unfolding walked
 value_walk Limit w rows k h = rw (plain_met (option (setting_word Limit)) w k rows (Some (setting_word Limit, [])) refl h) refl
 value_walk Stages w rows k h = rw (plain_met (option (setting_word Stages)) w k rows (Some (setting_word Stages, [])) refl h) refl
+value_walk Make w rows k h = rw (plain_met (option (setting_word Make)) w k rows (Some (setting_word Make, [])) refl h) refl
 
 -- a name
 pub name_turn : (w : Text) (rows : List Row) (p : Pending) → IsPlain w → turn_fault shape [] (open_at rows p 1) w ≡ settles rows (pending_of p)
 name_turn w rows nothing h = rw (plain_met idle w 1 rows None refl h, plain_fault idle w rows None refl h) refl
 name_turn w rows (value_waits Limit v) h = rw (plain_met idle w 1 rows (pending_of (value_waits Limit v)) refl h, plain_fault idle w rows (pending_of (value_waits Limit v)) refl h) refl
 name_turn w rows (value_waits Stages v) h = rw (plain_met idle w 1 rows (pending_of (value_waits Stages v)) refl h, plain_fault idle w rows (pending_of (value_waits Stages v)) refl h) refl
+name_turn w rows (value_waits Make v) h = rw (plain_met idle w 1 rows (pending_of (value_waits Make v)) refl h, plain_fault idle w rows (pending_of (value_waits Make v)) refl h) refl
 name_turn w rows (name_waits n) h = rw (plain_met idle w 1 rows (pending_of (name_waits n)) refl h, plain_fault idle w rows (pending_of (name_waits n)) refl h) refl
 
 pub name_walk : (w : Text) (rows : List Row) (p : Pending) → IsPlain w → walked filled [] (open_at rows p 1) w ≡ open_at (settled_rows filled (pending_of p) rows) (name_waits w) 2
@@ -135,6 +143,7 @@ unfolding walked
 name_walk w rows nothing h = rw (plain_met idle w 1 rows None refl h) refl
 name_walk w rows (value_waits Limit v) h = rw (plain_met idle w 1 rows (pending_of (value_waits Limit v)) refl h) refl
 name_walk w rows (value_waits Stages v) h = rw (plain_met idle w 1 rows (pending_of (value_waits Stages v)) refl h) refl
+name_walk w rows (value_waits Make v) h = rw (plain_met idle w 1 rows (pending_of (value_waits Make v)) refl h) refl
 name_walk w rows (name_waits n) h = rw (plain_met idle w 1 rows (pending_of (name_waits n)) refl h) refl
 
 -- there is no second name
@@ -154,6 +163,7 @@ pub behind_turn : (w : Text) (rows : List Row) (p : Pending) → turn_fault shap
 behind_turn w rows nothing = refl
 behind_turn w rows (value_waits Limit v) = refl
 behind_turn w rows (value_waits Stages v) = refl
+behind_turn w rows (value_waits Make v) = refl
 behind_turn w rows (name_waits n) = refl
 
 pub behind_walk : (w : Text) (rows : List Row) (p : Pending) → walked filled [] (ended_at rows p 1) w ≡ ended_at (settled_rows filled (pending_of p) rows) (name_waits w) 2
@@ -161,6 +171,7 @@ unfolding walked
 behind_walk w rows nothing = refl
 behind_walk w rows (value_waits Limit v) = refl
 behind_walk w rows (value_waits Stages v) = refl
+behind_walk w rows (value_waits Make v) = refl
 behind_walk w rows (name_waits n) = refl
 
 pub behind_stray : (w : Text) (rows : List Row) (p : Pending) (k : ℕ) → (1 == k) ≡ false → turn_fault shape [] (ended_at rows p k) w ≡ kind.UnknownArgument ∷ []

@@ -12,7 +12,7 @@ use Rattle.clap.specs.declared.builder.value_parser.Reading.TheVariants as readi
 use Rattle.clap.specs.declared.parser.matches.ValueSource.TheVariants.{CommandLine}
 use Rattle.nz_vec.specs.Texts.{Text}
 use Rattle.nz_input.specs.declared.kind.Goal.TheVariants.{HilbertBasis, ExtremeRays, SupportHyperplanes, Deg1Elements, ModuleGenerators, Triangulation, DualMode, PrimalMode}
-use Rattle.nz_words.specs.Parts.{Flag, OfGoal, Verbose, Setting, Limit, Stages, Part, Valued, Named, flag_word, setting_word, hyphens, label_of, value_of}
+use Rattle.nz_words.specs.Parts.{Flag, OfGoal, Verbose, Setting, Limit, Stages, Make, Part, Valued, Named, flag_word, setting_word, hyphens, label_of, value_of}
 use Rattle.nz_words.specs.Rules.{flag_rule, setting_rule, name_rule, command_app}
 
 -- ---- the command as it is built
@@ -62,6 +62,7 @@ keys =
     ∷ on Verbose
     ∷ set Limit
     ∷ set Stages
+    ∷ set Make
     ∷ project
     ∷ []
 
@@ -152,10 +153,12 @@ long_flag Verbose = refl
 pub long_setting : (o : Setting) → long_of (hyphens ++ setting_word o) ≡ Some (setting_word o, None)
 long_setting Limit = refl
 long_setting Stages = refl
+long_setting Make = refl
 
 pub long_joined : (o : Setting) (v : Text) → long_of (hyphens ++ setting_word o ++ 61 ∷ v) ≡ Some (setting_word o, Some v)
 long_joined Limit v = refl
 long_joined Stages v = refl
+long_joined Make v = refl
 
 pub flag_found : (f : Flag) → arg_by_long filled (flag_word f) ≡ Some (filled_flag (flag_word f))
 flag_found (OfGoal HilbertBasis) = refl
@@ -171,6 +174,7 @@ flag_found Verbose = refl
 pub setting_found : (o : Setting) → arg_by_long filled (setting_word o) ≡ Some (filled_setting (setting_word o))
 setting_found Limit = refl
 setting_found Stages = refl
+setting_found Make = refl
 
 -- ---- lists of kinds
 
@@ -201,6 +205,7 @@ again_not id rows h = rw h refl
 pub value_fault : (o : Setting) (v : Text) (rows : List Row) → settle_fault filled false (held_at rows (Some (setting_word o, v ∷ []))) ≡ or_else (repeat_fault false (setting_word o) rows) []
 value_fault Limit v rows = refl
 value_fault Stages v rows = refl
+value_fault Make v rows = refl
 
 pub name_fault : (n : Text) (rows : List Row) → settle_fault filled false (held_at rows (Some (codes "PROJECT", n ∷ []))) ≡ or_else (repeat_fault false (codes "PROJECT") rows) []
 name_fault n rows = refl
@@ -208,6 +213,7 @@ name_fault n rows = refl
 pub value_rows : (o : Setting) (v : Text) (rows : List Row) → settled_rows filled (Some (setting_word o, v ∷ [])) rows ≡ used (filled_setting (setting_word o)) (v ∷ []) rows
 value_rows Limit v rows = refl
 value_rows Stages v rows = refl
+value_rows Make v rows = refl
 
 pub used_new : (p : Part) (rows : List Row) → has_row (label_of p) rows ≡ false → with_values (label_of p) reading.AsWritten CommandLine (value_of p ∷ []) (at_row (label_of p) (λ _. []) [] rows) ≡ rows ++ row_of p ∷ []
 used_new p rows h = rw (at_new (label_of p) (λ _. []) [] rows h, append-nil rows, at_new (label_of p) _ (row_of p ∷ []) rows h) refl

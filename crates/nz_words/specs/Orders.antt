@@ -5,15 +5,16 @@ use Rattle.nz_vec.specs.Texts.{Text}
 use Rattle.nz_input.specs.declared.kind.Goal.{Goal}
 use Rattle.nz_input.specs.declared.kind.Goal.TheVariants.{HilbertBasis, ExtremeRays, SupportHyperplanes, Deg1Elements, ModuleGenerators, Triangulation, DualMode, PrimalMode}
 use Rattle.nz_input.specs.Words.{goal_word}
-use Rattle.nz_words.specs.Parts.{Part, given, flag_word, setting_word, Verbose, Limit, Stages, AreRead, NoneTwice}
+use Rattle.nz_words.specs.Parts.{Part, given, flag_word, setting_word, Verbose, Limit, Stages, Make, AreRead, NoneTwice}
 
--- an order: the project, the goals, the limit of the lists, whether each stage is printed, and after how many the run stops
+-- an order: the project, the goals, the limit of the lists, whether each stage is printed, after how many the run stops, and the side of the file that is made in the place of an input
 pub record OrderData : Type 0 where
   pub project : Text
   pub goals : List Goal
   pub limit : ℕ
   pub verbose : Bool
   pub stages : Option ℕ
+  pub make : Option ℕ
 
 -- what the words give, before it is judged
 pub record GivenData : Type 0 where
@@ -23,6 +24,7 @@ pub record GivenData : Type 0 where
   pub limit : Option Text
   pub verbose : Bool
   pub stages : Option Text
+  pub make : Option Text
 
 -- all goals, in the order in which an order names them
 abbrev pub all_goals : List Goal
@@ -37,6 +39,7 @@ given_by parts = record {
   limit = given (setting_word Limit) parts;
   verbose = is_some (given (flag_word Verbose) parts);
   stages = given (setting_word Stages) parts;
+  make = given (setting_word Make) parts;
 }
 
 -- ---- the project
@@ -80,10 +83,18 @@ abbrev pub IsLimit : Option Text → ℕ → Type 0
 IsLimit None n = n ≡ 100000
 IsLimit (Some text) n = IsNumber 1 250000 text n
 
--- the count of stages is at most 1,000,000, and there is none where none is given
+-- the number lies within these bounds, and there is none where none is given
+abbrev pub IsOptional : (low high : ℕ) → Option Text → Option ℕ → Type 0
+IsOptional low high None n = n ≡ None
+IsOptional low high (Some text) n = (k : ℕ) × (n ≡ Some k) × IsNumber low high text k
+
+-- the count of stages is at most 1,000,000
 abbrev pub AreStages : Option Text → Option ℕ → Type 0
-AreStages None n = n ≡ None
-AreStages (Some text) n = (k : ℕ) × (n ≡ Some k) × IsNumber 0 1000000 text k
+AreStages text n = IsOptional 0 1000000 text n
+
+-- the side of a made file is from 1 to 150
+abbrev pub IsSide : Option Text → Option ℕ → Type 0
+IsSide text n = IsOptional 1 150 text n
 
 -- ---- the order
 
@@ -97,6 +108,7 @@ pub record IsOrderOf (data_given : GivenData) (order : OrderData) : Type 0 where
   pub limit : IsLimit data_given.limit order.limit
   pub verbose : order.verbose ≡ data_given.verbose
   pub stages : AreStages data_given.stages order.stages
+  pub make : IsSide data_given.make order.make
 
 -- the words order this
 pub record IsOrder (words : List Text) (order : OrderData) : Type 0 where

@@ -20,6 +20,7 @@ pub data Flag : Type 0 where
 pub data Setting : Type 0 where
   Limit : Setting
   Stages : Setting
+  Make : Setting
 
 -- what a word stands for, or an option together with its value
 pub data Part : Type 0 where
@@ -36,6 +37,7 @@ flag_word Verbose = codes "Verbose"
 abbrev pub setting_word : Setting → Text
 setting_word Limit = codes "Limit"
 setting_word Stages = codes "Stages"
+setting_word Make = codes "Make"
 
 -- two hyphens
 abbrev pub hyphens : Text

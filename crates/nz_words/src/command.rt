@@ -59,5 +59,6 @@ pub(crate) fn command<'a>(alloc: Global) -> Result<Command<'a>, NoMemory>
     let made = with(made, flag(alloc, "Verbose"))?;
     let made = with(made, setting(alloc, "Limit"))?;
     let made = with(made, setting(alloc, "Stages"))?;
+    let made = with(made, setting(alloc, "Make"))?;
     with(made, project(alloc))
 }

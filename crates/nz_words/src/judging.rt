@@ -1,6 +1,6 @@
 //! Whether what is given is an order.
 ghost use Rattle.std.specs.Prelude.{◌≡◌, ◌↔◌, IsTrue, MatchOption, MatchResult, option_map, ℕ, Option};
-ghost use Rattle.nz_words.specs.Orders.{BeginsWithDash, Names, IsProject, IsNameOf, IsLimit, AreStages, IsOrderOf, OrderData};
+ghost use Rattle.nz_words.specs.Orders.{BeginsWithDash, Names, IsProject, IsNameOf, IsLimit, AreStages, IsSide, IsOrderOf, OrderData};
 
 use crate::name::Name;
 use crate::number::number;
@@ -64,6 +64,18 @@ fn stages_of(text: Option<&str>) -> Option<Option<u64>>
     }
 }
 
+fn side_of(text: Option<&str>) -> Option<Option<u32>>
+    ensures { MatchOption result ((n : Option ℕ) → ¬ IsSide (option_map (λ t. t.now) text.entry) n) (λ n. IsSide (option_map (λ t. t.now) text.entry) n) }
+{
+    match text {
+        Some(text) => match number(text, 1, 150) {
+            Some(n) => Some(Some(n)),
+            None => None,
+        },
+        None => Some(None),
+    }
+}
+
 /// The order that is given, or Usage where none is.
 pub(crate) fn order_of(alloc: Global, given: Given<'_>) -> Result<RunOrder, WordsRefusal>
     ensures { MatchResult result (λ order. IsOrderOf given.entry order) (λ e. e ≡ WordsRefusal.Usage → (order : OrderData) → ¬ IsOrderOf given.entry order) }
@@ -87,6 +99,10 @@ pub(crate) fn order_of(alloc: Global, given: Given<'_>) -> Result<RunOrder, Word
         Some(stages) => stages,
         None => return Err(WordsRefusal::Usage),
     };
+    let make = match side_of(given.make) {
+        Some(make) => make,
+        None => return Err(WordsRefusal::Usage),
+    };
     match Name::copied(alloc, project) {
         Ok(project) => Ok(RunOrder {
             project,
@@ -94,6 +110,7 @@ pub(crate) fn order_of(alloc: Global, given: Given<'_>) -> Result<RunOrder, Word
             limit,
             verbose: given.verbose,
             stages,
+            make,
         }),
         Err(_) => Err(WordsRefusal::NoMemory),
     }

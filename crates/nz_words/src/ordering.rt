@@ -32,6 +32,8 @@ pub struct RunOrder {
     pub verbose: bool,
     /// After how many stages the run stops, where it is to stop.
     pub stages: Option<u64>,
+    /// The side of the file that is made in the place of an input, from 1 to 150, where one is to be made.
+    pub make: Option<u32>,
 }
 
 impl Model for RunOrder {
@@ -45,6 +47,7 @@ impl Model for RunOrder {
       limit = o.limit;
       verbose = o.verbose;
       stages = o.stages;
+      make = o.make;
     } };
 }
 

@@ -21,6 +21,7 @@ pub(crate) struct Given<'a> {
     pub limit: Option<&'a str>,
     pub verbose: bool,
     pub stages: Option<&'a str>,
+    pub make: Option<&'a str>,
 }
 
 impl<'a> Model for Given<'a> {
@@ -36,6 +37,7 @@ impl<'a> Model for Given<'a> {
       limit = option_map (λ text. text.now) g.limit;
       verbose = g.verbose;
       stages = option_map (λ text. text.now) g.stages;
+      make = option_map (λ text. text.now) g.make;
     } };
 }
 
@@ -120,5 +122,6 @@ pub(crate) fn all_given<'a>(alloc: Global, matches: &ArgMatches<'a>) -> Result<G
         limit: value(matches, "Limit"),
         verbose: flag(matches, "Verbose"),
         stages: value(matches, "Stages"),
+        make: value(matches, "Make"),
     })
 }

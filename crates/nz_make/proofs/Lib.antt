@@ -1,0 +1,4 @@
+pub mod MadeFiles
+pub mod Cones
+pub mod Points
+pub mod Listing
