@@ -23,7 +23,7 @@ use Rattle.nz_dual.proofs.OrderLemmas.{each_part, each_whole, others_exist}
 use Rattle.nz_dual.proofs.RunLemmas.{passed_where}
 
 module _ (rows rays : List Vector) (places : List ℕ) (s : pointed.IsSimplexOf (length places) rows places rays) where
-  full_rank : HasRank (length places) (HasWidth (length places)) (length places)
+  pub full_rank : HasRank (length places) (HasWidth (length places)) (length places)
   full_rank =
       let f = full_simplex rows rays places s in
       let ps = paired (vectors_at rows places) rays in

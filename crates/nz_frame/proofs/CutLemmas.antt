@@ -1,10 +1,9 @@
 -- Cuts one after the other.
 use Rattle.std.proofs.Common.{◌≡◌, ℕ, suc, ◌+◌, ◌<◌, ◌≤◌, List, [], ◌∷◌, ◌++◌, length, take, drop, get_or, ℤ, subst, ap, sym, refl, ◌∙◌}
-use Rattle.std.specs.Prelude.{IfErr, FitsSigned, ◌^◌, pos}
-use Rattle.std.specs.Int.{w128}
-use Rattle.std.proofs.Common.{lit≤, lit<}
+use Rattle.std.specs.Prelude.{IfErr, pos, ◌≤ℤ◌}
+use Rattle.std.proofs.Common.{arith}
+use Rattle.std.proofs.lemmas.Int.{ints}
 use Rattle.nz_scalar.specs.Room.{HasRoom}
-use Rattle.nz_scalar.specs.RoomLaws.{room_of}
 use Rattle.std.specs.declared.result.Result.{Result}
 use Rattle.std.specs.declared.result.Result.TheVariants.{Ok, Err}
 use Rattle.std.proofs.lemmas.List.{take_more, take_all, take-append-drop}
@@ -106,6 +105,6 @@ pub err_map : {A E : Type 0} (P Q : E → Type 0) → ((e : E) → P e → Q e) 
 err_map P Q f (Ok a) k = k
 err_map P Q f (Err e) k = f e k
 
--- the room of the type in which systems are solved
-pub wide_room : HasRoom (pos (2 ^ 62)) (FitsSigned w128)
-wide_room = room_of w128 (2 ^ 62) (lit≤ tt) (lit≤ tt) (lit< tt)
+-- numbers up to 0 have room
+pub at_least : {h : ℤ} {fits : ℤ → Type 0} → HasRoom h fits → pos 0 ≤ℤ h
+at_least room = let one = room.at_least in omega (arith, ints, one)

@@ -1,5 +1,5 @@
 // The constraints of a system as one list, in the order in which they are tried.
-ghost use Rattle.std.specs.Prelude.{◌≡◌, ◌++◌, ◌^◌, [], ◌∷◌, Some, map, pos, IfErr, IfOk, IfSome};
+ghost use Rattle.std.specs.Prelude.{◌≡◌, ◌++◌, [], ◌∷◌, Some, map, IfErr, IfOk, IfSome};
 ghost use Rattle.std.specs.List.{AllByRecursion as Each};
 ghost use Rattle.nz_spec.specs.Vectors.{HasWidth};
 ghost use Rattle.nz_spec.specs.Constraints.{Zero, NotNegative};
@@ -10,7 +10,7 @@ ghost use Rattle.nz_frame.specs.Constraining.{AreAllConstraints, AreWithSwept, A
 use crate::faces::{Faces, faces_of};
 use nz_facets::{append_equations, append_inequalities};
 use nz_sweep::Basis;
-use nz_system::System;
+use nz_system::SystemOver;
 use nz_vec::{Constraint, Constraints, NoMemory, Num, Rows, Scalar};
 use std::alloc::Global;
 
@@ -19,9 +19,12 @@ use std::alloc::Global;
 /// and last the congruences of its lattice. The equations of the lattice are left out: where one is
 /// given, the generators are its vectors, and their equations say the same. Range comes only where a
 /// number of the sweep, or a measure in the coordinates of the file, is above `HALF`.
-pub fn system_constraints(alloc: Global, system: &System) -> Result<Constraints<i128>, Num>
+pub fn system_constraints<T: Scalar>(
+    alloc: Global,
+    system: &SystemOver<T>,
+) -> Result<Constraints<T>, Num>
     ensures all { IfOk result (AreAllConstraints system.now.system) }
-    ensures cause { IfErr result (λ e. e ≡ Num.Range → HasOwnAbove system.now.system (pos (2 ^ 62))) }
+    ensures cause { IfErr result (λ e. e ≡ Num.Range → HasOwnAbove system.now.system T.HALF) }
 {
     system.kept();
     let faces = match faces_of(alloc, system) {

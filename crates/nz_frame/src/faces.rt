@@ -1,5 +1,5 @@
 // The constraints of a system as forms: its own, and then those of its generators.
-ghost use Rattle.std.specs.Prelude.{◌≡◌, ◌++◌, ◌^◌, pos, IfOk, IfErr, IfSome};
+ghost use Rattle.std.specs.Prelude.{◌≡◌, ◌++◌, IfOk, IfErr, IfSome};
 ghost use Rattle.nz_measures.specs.Reaches.{HasOwnAbove};
 ghost use Rattle.nz_frame.specs.Frames.{AreGeneratorsTooLarge};
 ghost use Rattle.std.specs.List.{AllByRecursion as Each};
@@ -7,7 +7,7 @@ ghost use Rattle.nz_spec.specs.Vectors.{HasWidth};
 ghost use Rattle.nz_spec.specs.Constraints.{AreGenEquations, AreGenSupport, AreEquationsOf, AreRowsOf};
 
 use nz_facets::{Description, describe};
-use nz_system::System;
+use nz_system::SystemOver;
 use nz_vec::{NoMemory, Num, Rows, Scalar};
 use std::alloc::Global;
 
@@ -19,9 +19,9 @@ pub(crate) struct Faces<T: Scalar> {
 }
 
 /// The equations and the rows of the system.
-pub(crate) fn faces_of(alloc: Global, system: &System) -> Result<Faces<i128>, Num>
+pub(crate) fn faces_of<T: Scalar>(alloc: Global, system: &SystemOver<T>) -> Result<Faces<T>, Num>
     ensures found { IfOk result (λ f. AreEquationsOf system.now.system f.equations × AreRowsOf system.now.system f.rows) }
-    ensures cause { IfErr result (λ e. e ≡ Num.Range → HasOwnAbove system.now.system (pos (2 ^ 62))) }
+    ensures cause { IfErr result (λ e. e ≡ Num.Range → HasOwnAbove system.now.system T.HALF) }
 {
     system.kept();
     let given = match of_generators(alloc, system.width as usize, &system.gens) {

@@ -1,5 +1,5 @@
 // A system in coordinates of its lattice: there its members are the vectors of a cone.
-ghost use Rattle.std.specs.Prelude.{◌≡◌, ◌^◌, pos, IfOk, IfErr};
+ghost use Rattle.std.specs.Prelude.{◌≡◌, IfOk, IfErr};
 ghost use Rattle.nz_measures.specs.Sweeps.{IsSwept};
 ghost use Rattle.nz_measures.specs.Reaches.{HasOwnAbove};
 ghost use Rattle.nz_frame.specs.Frames.{IsFrame};
@@ -7,7 +7,7 @@ ghost use Rattle.nz_frame.specs.Frames.{IsFrame};
 use crate::faces::faces_of;
 use crate::lattices::lattice;
 use nz_sweep::{Basis, all_pulled};
-use nz_system::System;
+use nz_system::SystemOver;
 use nz_vec::{Num, Rows, Scalar};
 use std::alloc::Global;
 
@@ -20,10 +20,10 @@ pub struct Frame<T: Scalar> {
 
 /// The frame of the system. Range comes only where a number of the sweep of its lattice, a modulus, or the
 /// measure of a vector, a form or a form at a vector in the coordinates of the file is above `HALF`.
-pub fn frame_of(alloc: Global, system: &System) -> Result<Frame<i128>, Num>
+pub fn frame_of<T: Scalar>(alloc: Global, system: &SystemOver<T>) -> Result<Frame<T>, Num>
     ensures frame { IfOk result (λ f. IsFrame system.now.system f.base f.rows) }
     ensures swept { IfOk result (λ f. IsSwept system.now.system f.base) }
-    ensures cause { IfErr result (λ e. e ≡ Num.Range → HasOwnAbove system.now.system (pos (2 ^ 62))) }
+    ensures cause { IfErr result (λ e. e ≡ Num.Range → HasOwnAbove system.now.system T.HALF) }
 {
     system.kept();
     let faces = match faces_of(alloc, system) {

@@ -1,7 +1,7 @@
 // The lattice of a system: the vectors at which its equations and congruences hold.
 ghost use Rattle.nz_spec.specs.Constraints.{AreEquationsOf};
 ghost use Rattle.nz_measures.specs.Reaches.{HasOwnAbove};
-ghost use Rattle.std.specs.Prelude.{◌≡◌, ◌^◌, [], ◌∷◌, pos, ◌≤ℤ◌, IfOk, IfErr, IfSome, Some, None};
+ghost use Rattle.std.specs.Prelude.{◌≡◌, [], ◌∷◌, pos, ◌≤ℤ◌, IfOk, IfErr, IfSome, Some, None};
 ghost use Rattle.std.specs.List.{AllByRecursion as Each};
 ghost use Rattle.nz_spec.specs.Vectors.{HasWidth, dot};
 ghost use Rattle.nz_spec.specs.Systems.{Congruence, IsMultipleBy};
@@ -16,20 +16,20 @@ ghost use Rattle.nz_measures.specs.Sweeps.{Sweeps, IsFirstBase, IsGeneratedBase,
 ghost use Rattle.nz_frame.specs.Frames.{IsBaseOf, IsInGiven, IsGroupTooLarge, SomeCutLarge, SomeCongruenceLarge};
 
 use nz_sweep::Basis;
-use nz_system::System;
+use nz_system::SystemOver;
 use nz_vec::{Constraint, Constraints, Num, Rows, Scalar};
 use std::alloc::Global;
 
 /// A base of the vectors of the lattice of the system, where these are all its equations.
-pub(crate) fn lattice(
+pub(crate) fn lattice<T: Scalar>(
     alloc: Global,
-    system: &System,
-    equations: &Rows<i128>,
-) -> Result<Basis<i128>, Num>
+    system: &SystemOver<T>,
+    equations: &Rows<T>,
+) -> Result<Basis<T>, Num>
     requires { Each (HasWidth system.now.system.width) equations.now }
     ensures base { IfOk result (IsBaseOf system.now.system.width (IsInLattice system.now.system equations.now)) }
     ensures swept { IfOk result (λ b. AreEquationsOf system.now.system equations.now → IsSwept system.now.system b) }
-    ensures cause { IfErr result (λ e. e ≡ Num.Range → AreEquationsOf system.now.system equations.now → HasOwnAbove system.now.system (pos (2 ^ 62))) }
+    ensures cause { IfErr result (λ e. e ≡ Num.Range → AreEquationsOf system.now.system equations.now → HasOwnAbove system.now.system T.HALF) }
 {
     system.kept();
     let first = match begun(alloc, system.width as usize, &system.lat) {

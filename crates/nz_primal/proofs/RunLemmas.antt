@@ -17,6 +17,7 @@ use Rattle.nz_spec.specs.Boxes.{IsListedOrBoxMember}
 use Rattle.nz_linear.specs.Cones.{IsInRows}
 use Rattle.nz_linear.specs.Extreme.{IsPointed}
 use Rattle.nz_linear.specs.Coordinates.{AreCoordinates, in_coordinates}
+use Rattle.nz_spec.proofs.StageUnique.{ArePlacings-unique}
 use Rattle.nz_linear.proofs.Lists.{each_map, each_of_map}
 use Rattle.nz_linear.proofs.ConeMembers.{cone_of_members}
 use Rattle.nz_linear.proofs.Coordinates.{irreducible_forth, irreducible_back}
@@ -31,7 +32,7 @@ use Rattle.nz_vec.specs.declared.answers.Work.TheVariants.{Range, TooMany, Stopp
 use Rattle.nz_classes.specs.Classes.{IsPoint}
 use Rattle.nz_cover.specs.Placing.{ArePlaceable, IsInConeOf, IsPlaced, IsPlaceRefusal}
 use Rattle.nz_sweep.specs.Bases.{Base, IsBase}
-use Rattle.nz_primal.specs.Lists.{ArePrimalLists, IsPrimalRefusal, HasPassedFirst}
+use Rattle.nz_primal.specs.Lists.{ArePrimalLists, HasStageCount, IsPrimalRefusal, HasPassedFirst}
 use Rattle.nz_primal.specs.Second.{IsFaceBase, HaveCoordinates}
 use Rattle.nz_primal.specs.Parts.{IsSettled, IsSecondCone, IsVectorOf, IsPointOf, IsCrowded, IsWalkRefusal, IsFirstRefusal, IsLastRefusal, stage_count}
 use Rattle.nz_linear.proofs.SumCoordinates as sum
@@ -51,12 +52,12 @@ pub stopped_where : (P Q : List Pair → Type 0) → ((ps : List Pair) → P ps 
 stopped_where P Q f told stage a b h = record { passed = h.passed; new = h.new; telling = passed_where P Q f told h.passed a b true h.telling; is_last = h.is_last }
 
 -- ---- how many stages there are
-separates_length : {Fresh : List Vector → Vector → Type 0} {earlier vs first others : List Vector} → Separates Fresh earlier vs first others → length first + length others ≡ length vs
+pub separates_length : {Fresh : List Vector → Vector → Type 0} {earlier vs first others : List Vector} → Separates Fresh earlier vs first others → length first + length others ≡ length vs
 separates_length none = refl
 separates_length (fresh n s) = let r = separates_length s in omega (arith, r)
 separates_length (other n s) = let r = separates_length s in omega (arith, r)
 
-zipped_length : {A B : Type 0} (R : A → B → Type 0) (xs : List A) (ys : List B) → AllZip R xs ys → length ys ≡ length xs
+pub zipped_length : {A B : Type 0} (R : A → B → Type 0) (xs : List A) (ys : List B) → AllZip R xs ys → length ys ≡ length xs
 zipped_length R [] [] z = refl
 zipped_length R [] (y ∷ ys) z = absurd z
 zipped_length R (x ∷ xs) [] z = absurd z
@@ -217,6 +218,11 @@ module _ (w : ℕ) (rows order extreme : List Vector) (base : Base) (coordinates
     lists_found list simplices forms (subst (λ (m : ℕ). IsPlaced m coordinates simplices forms) en k.0) h,
     all_told told a b (subst (λ (m : ℕ). HasPassedAll (ArePlacings m coordinates) told a b) en k.1),
   )
+
+  pub counted_at : (n : ℕ) → n ≡ length base.vectors → (told : ℕ) (a b : Watched) → HasPassedAll (ArePlacings n coordinates) told a b → (count : ℕ) → count ≡ stage_count (length base.vectors) (length coordinates) → HasStageCount w extreme count
+  counted_at n en told a b h count ec pairs q =
+      let k = subst (λ (m : ℕ). HasPassedAll (ArePlacings m coordinates) told a b) en h in
+      ap length (ArePlacings-unique w extreme pairs k.telling.stages st.once.extreme.description.ray_widths q (placings_back k.telling.stages k.telling.are_stages)) ∙ stages_counted (length base.vectors) coordinates k.telling.stages have.widths settled_cone.full k.telling.are_stages ∙ sym ec
 
   pub walk_refused_at : (n : ℕ) → n ≡ length base.vectors → (limit told : ℕ) (a b : Watched) (simplices : List (List ℕ)) (forms : List (List Vector)) (e result : Work) (count : ℕ) → IsPlaced n coordinates simplices forms × HasPassedAll (ArePlacings n coordinates) told a b → IsWalkRefusal limit coordinates simplices e → count ≡ stage_count (length base.vectors) (length coordinates) → IsLastRefusal e told count result → IsPrimalRefusal w rows order limit told a b result
   walk_refused_at n en limit told a b simplices forms e result count k h ec i =

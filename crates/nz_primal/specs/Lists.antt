@@ -11,6 +11,7 @@ use Rattle.nz_spec.specs.Stages.{ArePlacings}
 use Rattle.nz_linear.specs.Cones.{IsInRows}
 use Rattle.nz_vec.specs.declared.answers.Work.{Work}
 use Rattle.nz_vec.specs.declared.answers.Work.TheVariants.{Range, TooMany, Stopped, NoMemory}
+use Rattle.nz_watch.specs.Watching.{Pair}
 use Rattle.nz_watch.specs.Telling.{Watched, WasTold, HasPassed, HasPassedAll, HasStopped}
 use Rattle.nz_primal.specs.Second.{IsFaceBase, HaveCoordinates}
 
@@ -41,6 +42,10 @@ pub record ArePrimalLists (w : ℕ) (rows order list extreme : List Vector) (sim
   pub generators : AreGenerators w rows order extreme
   pub cover : IsGoodCover w (IsInRows w rows) extreme simplices
   pub cover_forms : AreCoverForms w rows extreme simplices forms
+
+-- the placing of these vectors has so many stages
+abbrev pub HasStageCount : ℕ → List Vector → ℕ → Type 0
+HasStageCount w extreme count = (pairs : List Pair) → ArePlacings w extreme pairs → length pairs ≡ count
 
 -- no stop came, and so many stages were passed: none before the extreme generators are found, and then the first of their placing
 abbrev pub HasPassedFirst : ℕ → (rows order : List Vector) → (told passed : ℕ) → (before now : Watched) → Type 0

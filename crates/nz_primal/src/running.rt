@@ -5,7 +5,7 @@ ghost use Rattle.nz_spec.specs.Vectors.{HasWidth};
 ghost use Rattle.nz_spec.specs.Stages.{ArePlacings};
 ghost use Rattle.nz_watch.specs.Telling.{HasPassedAll};
 ghost use Rattle.nz_pointed.specs.Pointed.{IsSimplexOf};
-ghost use Rattle.nz_primal.specs.Lists.{AreSeparating, ArePrimalLists, IsPrimalRefusal};
+ghost use Rattle.nz_primal.specs.Lists.{AreSeparating, ArePrimalLists, HasStageCount, IsPrimalRefusal};
 ghost use Rattle.nz_measures.specs.Sweeps.{Sweeps, whole_base};
 ghost use Rattle.nz_measures.specs.Reaches.{HasPrimalAbove};
 ghost use Rattle.nz_primal.specs.Parts.{WhereRange, IsSettled, MoveOn, IsSettleCause, stage_count, IsFirstRefusal, IsLastRefusal};
@@ -29,6 +29,8 @@ pub struct PrimalLists<T: Scalar> {
     /// Simplices of places of extreme generators. Their forms stand in second coordinates: those in a
     /// base of the vectors at which the rows are 0 that are 0 at all extreme generators.
     pub cover: Cover<T>,
+    /// How many stages the placing of the extreme generators has.
+    pub stages: u64,
 }
 
 /// The irreducible elements of the whole vectors at which all rows are at least 0, where only 0 has
@@ -58,6 +60,7 @@ pub fn primal<T: Scalar>(
     requires order { AreSeparating (length simplex.now.places) order.now }
     ensures lists { MatchResult result (λ p. ArePrimalLists (length simplex.now.places) rows.now order.now p.list p.extreme p.cover.simplices p.cover.forms × HasPassedAll (ArePlacings (length simplex.now.places) p.extreme) told_before (seen watch.old) (seen watch.new)) (λ e. IsPrimalRefusal (length simplex.now.places) rows.now order.now limit told_before (seen watch.old) (seen watch.new) e) }
     ensures within { IfOk result (λ p. length p.list ≤ limit) }
+    ensures stages { IfOk result (λ p. HasStageCount (length simplex.now.places) p.extreme p.stages) }
     ensures range { IfErr result (WhereRange (HasPrimalAbove T.HALF (length simplex.now.places) rows.now order.now)) }
 {
     let (extreme, second) = match settled(alloc, rows, simplex, order) {
@@ -73,6 +76,7 @@ pub fn primal<T: Scalar>(
             list,
             extreme,
             cover,
+            stages: stages(&second),
         }),
         Err(refusal) => Err(after_stages(refusal, told_before, stages(&second))),
     }

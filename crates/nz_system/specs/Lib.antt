@@ -4,3 +4,4 @@ pub mod Drafts
 pub mod Asked
 pub mod Rules
 pub mod Meaning
+pub mod Narrowing

@@ -10,12 +10,14 @@ mod contribution;
 mod draft;
 mod groups;
 mod meaning;
+mod narrowing;
 mod refusal;
 mod rules;
 mod system;
 
 pub use asked::GoalSet;
 pub use meaning::system_of;
+pub use narrowing::narrow_system;
 pub use nz_vec::NoMemory;
 pub use refusal::{MeaningFault, SystemRefusal};
-pub use system::System;
+pub use system::{System, SystemOver};

@@ -2,27 +2,30 @@
 
 use crate::asked::GoalSet;
 use nz_input::Mode;
-use nz_vec::{Constraints, Row, Rows};
+use nz_vec::{Constraints, Row, Rows, Scalar};
 use std::marker::Model;
 
-/// A system of constraints and generators, with goals and mode. Forms and vectors have `width`
-/// entries, of which the last is the level where there is one; asked vectors have none for it.
+/// A system of constraints and generators over an integer type, with goals and mode. Forms and vectors
+/// have `width` entries, of which the last is the level where there is one; asked vectors have none for it.
 #[derive(Drop)]
-pub struct System {
+pub struct SystemOver<T: Scalar> {
     pub width: u32,
     pub level: bool,
-    pub eq: Rows<i128>,
-    pub cg: Constraints<i128>,
-    pub ge: Rows<i128>,
-    pub gens: Option<Rows<i128>>,
-    pub lat: Option<Rows<i128>>,
-    pub grading: Option<Row<i128>>,
-    pub asked: Option<Rows<i128>>,
+    pub eq: Rows<T>,
+    pub cg: Constraints<T>,
+    pub ge: Rows<T>,
+    pub gens: Option<Rows<T>>,
+    pub lat: Option<Rows<T>>,
+    pub grading: Option<Row<T>>,
+    pub asked: Option<Rows<T>>,
     pub goals: GoalSet,
     pub mode: Mode,
 }
 
-impl Model for System {
+/// The system of a file.
+pub type System = SystemOver<i128>;
+
+impl<T: Scalar> Model for SystemOver<T> {
     ghost use Rattle.std.specs.Prelude.{◌≡◌, map};
     ghost use Rattle.nz_spec.specs.Constraints.{constraint_of};
     ghost use Rattle.nz_system.specs.Meaning.{SystemData, IsKept, congruences_of};
@@ -35,7 +38,7 @@ impl Model for System {
     ghost invariant = { λ s. (s.cg ≡ map constraint_of (congruences_of s.cg)) × IsKept (record { system = record { width = s.width; level = s.level; eq = s.eq; cg = congruences_of s.cg; ge = s.ge; gens = s.gens; lat = s.lat; grading = s.grading; asked = s.asked }; goals = s.goals; mode = s.mode }) };
 }
 
-impl System {
+impl<T: Scalar> SystemOver<T> {
     ghost use Rattle.nz_system.specs.Meaning.{IsKept};
 
     /// What each system keeps.

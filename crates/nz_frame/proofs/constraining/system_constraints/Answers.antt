@@ -1,4 +1,4 @@
-use Rattle.std.proofs.Common.{◌≡◌, ◌++◌, ◌∙◌, ◌^◌, List, map, pos, ap, subst}
+use Rattle.std.proofs.Common.{◌≡◌, ◌++◌, ◌∙◌, List, map, ap, subst}
 use Rattle.nz_spec.specs.Constraints.{Constraint, Zero, NotNegative, constraint_of}
 use Rattle.nz_vec.specs.declared.answers.Num.TheVariants.{Range}
 use Rattle.nz_measures.specs.Reaches.{HasOwnAbove}
@@ -10,7 +10,7 @@ use Rattle.nz_frame.proofs.SystemConstraints.{congruences_listed, together, latt
 use Rattle.nz_frame.proofs.constraining.system_constraints.Goals as goal
 
 pub returns-clause-all : goal.returns-clause-all
-returns-clause-all c =
+returns-clause-all g c =
     let s = c.args.system.now.system in
     let equations = c.in-Ok.faces.equations in
     let rows = c.in-Ok.faces.rows in
@@ -21,8 +21,8 @@ returns-clause-all c =
     c.append_given.result c.append_given.ensures.all
 
 pub returns-clause-cause : goal.returns-clause-cause
-returns-clause-cause c =
+returns-clause-cause g c =
     let s = c.args.system.now.system in
-    err_map (λ e. e ≡ Range → IsLatticeTooLarge (pos (2 ^ 62)) c.system.inside.width c.system.inside.lat) (λ e. e ≡ Range → HasOwnAbove s (pos (2 ^ 62)))
-    (λ r f e. lattice_above (pos (2 ^ 62)) s c.kept.ensures.system (subst (λ (d : SystemData). IsLatticeTooLarge (pos (2 ^ 62)) d.system.width d.system.lat) c.system.view_is (f e)))
+    err_map (λ e. e ≡ Range → IsLatticeTooLarge g.T.Scalar.HALF c.system.inside.width c.system.inside.lat) (λ e. e ≡ Range → HasOwnAbove s g.T.Scalar.HALF)
+    (λ r f e. lattice_above g.T.Scalar.HALF s c.kept.ensures.system (subst (λ (d : SystemData). IsLatticeTooLarge g.T.Scalar.HALF d.system.width d.system.lat) c.system.view_is (f e)))
     c.append_given.result c.append_given.ensures.cause
