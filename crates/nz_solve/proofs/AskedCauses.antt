@@ -27,7 +27,6 @@ use Rattle.nz_member.specs.Replies.{LacksNumber, LacksValueAt}
 use Rattle.nz_blocks.specs.Outcomes.{at_level}
 use Rattle.nz_frame.specs.Constraining.{AreGivenCongruences, AreAllConstraints}
 use Rattle.nz_solve.specs.Replies.{IsWhere}
-use Rattle.nz_solve.specs.Solutions.{half}
 use Rattle.nz_solve.specs.Parts.{AreElementLists, LacksReply}
 use Rattle.nz_solve.proofs.AskedLemmas.{level_there}
 use Rattle.nz_solve.proofs.RangeLemmas.{irreducible_named}
@@ -94,21 +93,21 @@ module _ (s : System) (is : IsSystem s) (cs : List Constraint) (a : AreAllConstr
       ]
 
   -- ---- the vectors
-  value_above : (fits : ℤ → Type 0) → HasRoom half fits → (x : Vector) → IsAmbientVector s x → LacksValue fits cs x → HasOwnAbove s half
-  value_above fits room x named k = of_ambient (pool_pair half (IsAmbientVector s) (IsAmbientForm s) (form_of k.constraint) x (form_named k.constraint k.listed) named (value_cause half fits room (form_of k.constraint) x k.lacks))
+  value_above : (half : ℤ) (fits : ℤ → Type 0) → HasRoom half fits → (x : Vector) → IsAmbientVector s x → LacksValue fits cs x → HasOwnAbove s half
+  value_above half fits room x named k = of_ambient (pool_pair half (IsAmbientVector s) (IsAmbientForm s) (form_of k.constraint) x (form_named k.constraint k.listed) named (value_cause half fits room (form_of k.constraint) x k.lacks))
 
-  listed_above : (fits : ℤ → Type 0) → HasRoom half fits → (xs : List Vector) → Each (IsAmbientVector s) xs → LacksValueAt fits cs xs → HasOwnAbove s half
-  listed_above fits room xs named k = value_above fits room k.vector (Each-contains (IsAmbientVector s) xs k.vector named k.listed) k.lacks
+  listed_above : (half : ℤ) (fits : ℤ → Type 0) → HasRoom half fits → (xs : List Vector) → Each (IsAmbientVector s) xs → LacksValueAt fits cs xs → HasOwnAbove s half
+  listed_above half fits room xs named k = value_above half fits room k.vector (Each-contains (IsAmbientVector s) xs k.vector named k.listed) k.lacks
 
-  modules_above : (fits : ℤ → Type 0) → HasRoom half fits → IsPositive (IsMember s) → (modules : Option (List Vector)) (level : Bool) → s.level ≡ level → IsWhere level (AreModuleGenerators s) modules → MatchOption modules ⊥ (LacksValueAt fits cs) → HasOwnAbove s half
-  modules_above fits room p None level e m k = absurd k
-  modules_above fits room p (Some xs) true e m k = listed_above fits room xs (irreducible_named s p xs (each_map (IsModuleGenerator (IsMember s)) (IsIrreducible (IsMember s)) xs (λ x g. ((module_irreducible s is e x).0 g).0) m.only)) k
-  modules_above fits room p (Some xs) false e m k = absurd (let f : Some xs ≡ None = m in cc)
+  modules_above : (half : ℤ) (fits : ℤ → Type 0) → HasRoom half fits → IsPositive (IsMember s) → (modules : Option (List Vector)) (level : Bool) → s.level ≡ level → IsWhere level (AreModuleGenerators s) modules → MatchOption modules ⊥ (LacksValueAt fits cs) → HasOwnAbove s half
+  modules_above half fits room p None level e m k = absurd k
+  modules_above half fits room p (Some xs) true e m k = listed_above half fits room xs (irreducible_named s p xs (each_map (IsModuleGenerator (IsMember s)) (IsIrreducible (IsMember s)) xs (λ x g. ((module_irreducible s is e x).0 g).0) m.only)) k
+  modules_above half fits room p (Some xs) false e m k = absurd (let f : Some xs ≡ None = m in cc)
 
-  pub reply_above : (fits : ℤ → Type 0) → HasRoom half fits → IsPositive (IsMember s) → (hilbert : List Vector) (modules : Option (List Vector)) → AreElementLists s hilbert modules → (level : Bool) → s.level ≡ level → (xs : List Vector) → s.asked ≡ Some xs → LacksReply fits cs level hilbert modules xs → HasOwnAbove s half
-  reply_above fits room p hilbert modules l level e xs given k = by k.lacks
+  pub reply_above : (half : ℤ) (fits : ℤ → Type 0) → HasRoom half fits → IsPositive (IsMember s) → (hilbert : List Vector) (modules : Option (List Vector)) → AreElementLists s hilbert modules → (level : Bool) → s.level ≡ level → (xs : List Vector) → s.asked ≡ Some xs → LacksReply fits cs level hilbert modules xs → HasOwnAbove s half
+  reply_above half fits room p hilbert modules l level e xs given k = by k.lacks
     where
       by : LacksNumber fits cs (at_level level k.vector) hilbert modules → HasOwnAbove s half
-      by (inl x) = value_above fits room (at_level level k.vector) (subst (IsAmbientVector s) (sym (level_there s level e k.vector)) (asked given k.listed)) x
-      by (inr (inl x)) = listed_above fits room hilbert (irreducible_named s p hilbert (each_map (IsHilbertElement s) (IsIrreducible (IsMember s)) hilbert (λ y h. h.irreducible) l.basis.only)) x
-      by (inr (inr x)) = modules_above fits room p modules s.level refl l.are_modules x
+      by (inl x) = value_above half fits room (at_level level k.vector) (subst (IsAmbientVector s) (sym (level_there s level e k.vector)) (asked given k.listed)) x
+      by (inr (inl x)) = listed_above half fits room hilbert (irreducible_named s p hilbert (each_map (IsHilbertElement s) (IsIrreducible (IsMember s)) hilbert (λ y h. h.irreducible) l.basis.only)) x
+      by (inr (inr x)) = modules_above half fits room p modules s.level refl l.are_modules x

@@ -1,4 +1,7 @@
 mod FrameLists
+mod ToldLemmas
+mod NarrowLemmas
+mod AgainLemmas
 mod RangeLemmas
 mod LineRefusals
 mod PrimalLemmas

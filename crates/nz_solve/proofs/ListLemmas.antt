@@ -1,7 +1,6 @@
 -- The lists of a system by level and degree, as the parts of the solver leave them.
-use Rattle.std.proofs.Common.{◌≡◌, ◌≢◌, ℕ, ◌-◌, ◌≤◌, List, length, Option, Some, None, IfSome, Bool, true, false, IsTrue, refl, sym, ◌∙◌, subst, arith, inl, inr}
-use Rattle.std.specs.Prelude.{FitsSigned}
-use Rattle.std.specs.Int.{w128}
+use Rattle.std.proofs.Common.{◌≡◌, ◌≢◌, ℕ, ℤ, ◌-◌, ◌≤◌, List, length, Option, Some, None, IfSome, Bool, true, false, IsTrue, refl, sym, ◌∙◌, subst, arith, inl, inr}
+use Rattle.nz_scalar.specs.Room.{HasRoom}
 use Rattle.std.specs.List.{AllByRecursion as Each}
 use Rattle.nz_spec.specs.Vectors.{Vector, HasWidth}
 use Rattle.nz_spec.specs.Order.{ListsOnce}
@@ -15,7 +14,6 @@ use Rattle.nz_degree.specs.declared.positivity.Positivity.TheVariants.{Positive,
 use Rattle.nz_degree.proofs.ElementLaws.{sorted_is_basis, sorted_are_modules}
 use Rattle.nz_measures.specs.Reaches.{HasOwnAbove}
 use Rattle.nz_frame.specs.Elements.{IsGraded}
-use Rattle.nz_frame.proofs.CutLemmas.{wide_room}
 use Rattle.nz_frame.proofs.GradeLaws.{check_is_exact, ungraded_is_graded}
 use Rattle.nz_frame.proofs.LevelLists.{zero_picked, one_picked, flat_elements}
 use Rattle.nz_vec.specs.declared.answers.Num.{Num}
@@ -23,7 +21,6 @@ use Rattle.nz_vec.specs.declared.answers.Num.TheVariants as num
 use Rattle.nz_solve.specs.declared.refusal.SolveRefusal.{SolveRefusal}
 use Rattle.nz_solve.specs.declared.refusal.SolveRefusal.TheVariants.{Line, Grade, Range, TooMany, Stopped, NoMemory}
 use Rattle.nz_solve.specs.Replies.{IsWhere}
-use Rattle.nz_solve.specs.Solutions.{half}
 use Rattle.nz_solve.specs.Parts.{AreLevels, ArePositive, IsDegreeRefusal, LacksSomeDegree, IsLevelCause, IsSorted, AreSorted, AreElementLists, IsReckonRefusal, IsOutcomeRefusal}
 use Rattle.nz_solve.proofs.RangeLemmas.{degree_refused, irreducible_named}
 
@@ -51,9 +48,9 @@ pub graded_at : (s : System) → IsSystem s → (grading : Option Vector) → gr
 graded_at s is grading e xs l = subst (λ (o : Option Vector). IfSome o (λ g. Each (HasWidth (length g)) xs)) (sym e) (graded_wide s is xs l)
 
 -- a call that only reckons, on the way to the outcome
-pub reckon_outcome : (s : System) (e : Num) (r : SolveRefusal) → (e ≡ num.Range → HasOwnAbove s half) → IsReckonRefusal e r → IsOutcomeRefusal s r
-reckon_outcome s num.Range r f i = subst (IsOutcomeRefusal s) (sym i) (f refl)
-reckon_outcome s num.NoMemory r f i = subst (IsOutcomeRefusal s) (sym i) tt
+pub reckon_outcome : (half : ℤ) (s : System) (e : Num) (r : SolveRefusal) → (e ≡ num.Range → HasOwnAbove s half) → IsReckonRefusal e r → IsOutcomeRefusal half s r
+reckon_outcome half s num.Range r f i = subst (IsOutcomeRefusal half s) (sym i) (f refl)
+reckon_outcome half s num.NoMemory r f i = subst (IsOutcomeRefusal half s) (sym i) tt
 
 -- ---- levels
 module _ (s : System) (is : IsSystem s) (list zero one : List Vector) (l : ListsOnce (IsIrreducible (IsMember s)) list) (level : Bool) (e : level ≡ s.level) (p : AreLevels level list zero one) where
@@ -97,17 +94,17 @@ module _ (s : System) (is : IsSystem s) (list zero one : List Vector) (l : Lists
   lists_are hilbert modules g h = element_lists hilbert modules (zero_graded g) h
 
   -- ---- refusals
-  degree_cause : IsPositive (IsMember s) → LacksSomeDegree (FitsSigned w128) s.grading zero → HasOwnAbove s half
-  degree_cause q k = degree_refused s (FitsSigned w128) wide_room k.form k.given zero (irreducible_named s q zero (each_map (IsHilbertElement s) (IsIrreducible (IsMember s)) zero (λ x h. h.irreducible) zero_listed.only)) k.lacks
+  degree_cause : (half : ℤ) (fits : ℤ → Type 0) → HasRoom half fits → IsPositive (IsMember s) → LacksSomeDegree fits s.grading zero → HasOwnAbove s half
+  degree_cause half fits room q k = degree_refused s half fits room k.form k.given zero (irreducible_named s q zero (each_map (IsHilbertElement s) (IsIrreducible (IsMember s)) zero (λ x h. h.irreducible) zero_listed.only)) k.lacks
 
-  pub degrees_refused : IsPositive (IsMember s) → (r : SolveRefusal) → IsDegreeRefusal s.grading zero r → IsOutcomeRefusal s r
-  degrees_refused q (Line v) h = absurd h
-  degrees_refused q (Grade x) h = subst (IsFirstNotPositive s) (sym h.shown) (check_is_exact s h.form h.given zero zero_listed (NotPositive h.place) h.tells).0
-  degrees_refused q Range h = degree_cause q h
-  degrees_refused q TooMany h = absurd h
-  degrees_refused q (Stopped stage) h = absurd h
-  degrees_refused q NoMemory h = tt
+  pub degrees_refused : (half : ℤ) (fits : ℤ → Type 0) → HasRoom half fits → IsPositive (IsMember s) → (r : SolveRefusal) → IsDegreeRefusal fits s.grading zero r → IsOutcomeRefusal half s r
+  degrees_refused half fits room q (Line v) h = absurd h
+  degrees_refused half fits room q (Grade x) h = subst (IsFirstNotPositive s) (sym h.shown) (check_is_exact s h.form h.given zero zero_listed (NotPositive h.place) h.tells).0
+  degrees_refused half fits room q Range h = degree_cause half fits room q h
+  degrees_refused half fits room q TooMany h = absurd h
+  degrees_refused half fits room q (Stopped stage) h = absurd h
+  degrees_refused half fits room q NoMemory h = tt
 
-  pub sorting_refused : IsPositive (IsMember s) → IsLevelCause (FitsSigned w128) level s.grading zero one → HasOwnAbove s half
-  sorting_refused q (inl k) = degree_cause q k
-  sorting_refused q (inr k) = degree_refused s (FitsSigned w128) wide_room k.1.form k.1.given one (irreducible_named s q one (each_map (IsModuleGenerator (IsMember s)) (IsIrreducible (IsMember s)) one (λ x g. ((module_irreducible s is (sym e ∙ k.0) x).0 g).0) (one_listed k.0).only)) k.1.lacks
+  pub sorting_refused : (half : ℤ) (fits : ℤ → Type 0) → HasRoom half fits → IsPositive (IsMember s) → IsLevelCause fits level s.grading zero one → HasOwnAbove s half
+  sorting_refused half fits room q (inl k) = degree_cause half fits room q k
+  sorting_refused half fits room q (inr k) = degree_refused s half fits room k.1.form k.1.given one (irreducible_named s q one (each_map (IsModuleGenerator (IsMember s)) (IsIrreducible (IsMember s)) one (λ x g. ((module_irreducible s is (sym e ∙ k.0) x).0 g).0) (one_listed k.0).only)) k.1.lacks

@@ -1,8 +1,8 @@
 -- Of the elements of a system what its goals ask.
-use Rattle.std.proofs.Common.{◌≡◌, ℕ, ◌-◌, List, Option, Some, None, IfSome, IsSome, Bool, true, false, IsTrue, pos, refl, sym, ap, ◌∙◌, subst, inl, inr}
+use Rattle.std.proofs.Common.{◌≡◌, ℕ, ℤ, ◌-◌, List, Option, Some, None, IfSome, IsSome, Bool, true, false, IsTrue, pos, refl, sym, ap, ◌∙◌, subst, inl, inr}
 use Rattle.std.proofs.lemmas.Bool.{false≢true}
-use Rattle.std.specs.Prelude.{◌&&◌, ◌||◌, FitsSigned}
-use Rattle.std.specs.Int.{w128}
+use Rattle.std.specs.Prelude.{◌&&◌, ◌||◌}
+use Rattle.nz_scalar.specs.Room.{HasRoom}
 use Rattle.std.specs.List.{AllByRecursion as Each}
 use Rattle.nz_spec.specs.Vectors.{Vector, HasWidth}
 use Rattle.nz_spec.specs.Order.{StandsBefore}
@@ -15,10 +15,9 @@ use Rattle.nz_degree.proofs.ElementLaws.{ones_are_elements}
 use Rattle.nz_system.specs.Meaning.{SystemData, there, IsKept}
 use Rattle.nz_blocks.specs.Outcomes.{Asked, OutcomeData, IsOutcome, HasText}
 use Rattle.nz_measures.specs.Reaches.{HasOwnAbove}
-use Rattle.nz_frame.proofs.CutLemmas.{wide_room}
 use Rattle.nz_frame.proofs.LevelLists.{rays_picked, vertices_picked, flat_rays}
 use Rattle.nz_solve.specs.Replies.{IsWhere, AreWhere, AreAnswered}
-use Rattle.nz_solve.specs.Solutions.{IsSolution, wants_basis, wants_modules, half}
+use Rattle.nz_solve.specs.Solutions.{IsSolution, wants_basis, wants_modules}
 use Rattle.nz_solve.specs.Parts.{AreElements, AreElementLists, AreOnes, AreParted, IsShownCause, wants_description, amb_at, kept_where}
 use Rattle.nz_solve.proofs.OutcomeKept as shapes
 use Rattle.nz_solve.proofs.RangeLemmas.{degree_refused, irreducible_named, described_refused}
@@ -97,9 +96,16 @@ pub hilbert_wide : (s : System) (hilbert : List Vector) → IsHilbertBasis s hil
 hilbert_wide s hilbert b = each_map (IsHilbertElement s) (HasWidth s.width) hilbert (λ x h. h.irreducible.member.width) b.only
 
 -- why something is not shown
-pub shown_refused : (s : SystemData) (list extreme : List Vector) (simplices : List (List ℕ)) → AreElements s list extreme simplices → (hilbert : List Vector) → IsHilbertBasis s.system hilbert → IsShownCause s extreme hilbert → HasOwnAbove s.system half
-shown_refused s list extreme simplices are hilbert b (inl k) = degree_refused s.system (FitsSigned w128) wide_room k.form k.given hilbert (irreducible_named s.system are.positive hilbert (each_map (IsHilbertElement s.system) (IsIrreducible (IsMember s.system)) hilbert (λ x h. h.irreducible) b.only)) k.lacks
-shown_refused s list extreme simplices are hilbert b (inr k) = described_refused s.system extreme are.positive (for_hyperplanes s list extreme simplices are k.0) k.1
+pub shown_refused : (half : ℤ) (fits : ℤ → Type 0) → HasRoom half fits → (s : SystemData) (list extreme : List Vector) (simplices : List (List ℕ)) → AreElements s list extreme simplices → (hilbert : List Vector) → IsHilbertBasis s.system hilbert → IsShownCause half fits s extreme hilbert → HasOwnAbove s.system half
+shown_refused half fits room s list extreme simplices are hilbert b (inl k) = degree_refused s.system half fits room k.form k.given hilbert (irreducible_named s.system are.positive hilbert (each_map (IsHilbertElement s.system) (IsIrreducible (IsMember s.system)) hilbert (λ x h. h.irreducible) b.only)) k.lacks
+shown_refused half fits room s list extreme simplices are hilbert b (inr k) = described_refused s.system half extreme are.positive (for_hyperplanes s list extreme simplices are k.0) k.1
+
+-- the same lists, by other names
+pub lists_same : (s : System) (hilbert hilbert' : List Vector) (modules modules' : Option (List Vector)) → hilbert' ≡ hilbert → modules' ≡ modules → AreElementLists s hilbert modules → AreElementLists s hilbert' modules'
+lists_same s hilbert hilbert' modules modules' e f h = subst (λ (o : Option (List Vector)). AreElementLists s hilbert' o) (sym f) (subst (λ (xs : List Vector). AreElementLists s xs modules) (sym e) h)
+
+pub elements_same : (s : SystemData) (list extreme extreme' : List Vector) (simplices : List (List ℕ)) → extreme' ≡ extreme → AreElements s list extreme simplices → AreElements s list extreme' simplices
+elements_same s list extreme extreme' simplices e h = subst (λ (xs : List Vector). AreElements s list xs simplices) (sym e) h
 
 -- ---- the outcome
 module _ (s : SystemData) (kept : IsKept s) (list extreme : List Vector) (covering : List (List ℕ)) (are : AreElements s list extreme covering) (basis : List Vector) (generators_of_module : Option (List Vector)) (lists : AreElementLists s.system basis generators_of_module) (o : OutcomeData)

@@ -1,5 +1,5 @@
 -- What the primal run finds in a frame, as the elements of the system and as what a watch is told of it.
-use Rattle.std.proofs.Common.{◌≡◌, inl, inr, ⊎_elim, ℕ, List, length, map, pos, ◌≤ℤ◌, ◌<ℤ◌, Option, IfSome, false, Contains, sym, ap, ◌∙◌, subst, arith}
+use Rattle.std.proofs.Common.{◌≡◌, inl, inr, ⊎_elim, ℕ, ℤ, max, List, length, map, pos, ◌≤ℤ◌, ◌<ℤ◌, Option, IfSome, false, Contains, sym, ap, ◌∙◌, subst, arith}
 use Rattle.std.proofs.lemmas.List.{length-map}
 use Rattle.std.specs.List.{AllByRecursion as Each}
 use Rattle.nz_spec.specs.Vectors.{Vector, HasWidth}
@@ -17,14 +17,14 @@ use Rattle.nz_linear.proofs.Lists.{each_map, each_of_map}
 use Rattle.nz_linear.proofs.SumCoordinates as sum
 use Rattle.nz_linear.proofs.CoverCoordinates.{cover_forth}
 use Rattle.nz_watch.specs.Watching.{Pair}
-use Rattle.nz_watch.specs.Telling.{Watched, HasPassedAll}
+use Rattle.nz_watch.specs.Telling.{Watched, HasPassedAll, HasLeft}
 use Rattle.nz_vec.specs.declared.answers.Work.{Work}
 use Rattle.nz_vec.specs.declared.answers.Work.TheVariants as work
 use Rattle.nz_input.specs.declared.kind.Mode.TheVariants.{Primal}
 use Rattle.nz_pointed.specs.Pointed.{IsSimplexOf}
 use Rattle.nz_rays.proofs.StartLemmas.{simplex_width, simplex_at_width}
 use Rattle.nz_sweep.specs.Bases.{Base, IsBase}
-use Rattle.nz_primal.specs.Lists.{AreSeparating, AreGenerators, ArePrimalLists, HasPassedFirst, IsPrimalRefusal}
+use Rattle.nz_primal.specs.Lists.{AreSeparating, AreGenerators, ArePrimalLists, HasStageCount, HasPassedFirst, IsPrimalRefusal}
 use Rattle.nz_primal.specs.Parts.{WhereRange}
 use Rattle.nz_primal.proofs.PlacingCoordinates.{placings_forth}
 use Rattle.nz_primal.proofs.ElementLemmas.{different_mapped}
@@ -35,8 +35,9 @@ use Rattle.nz_measures.specs.Reaches.{IsPrimalReachAbove}
 use Rattle.nz_frame.specs.Frames.{IsFrame, order_forms, vector_at}
 use Rattle.nz_frame.proofs.FrameLemmas.{frame_base, frame_wide, frame_coordinates, frame_positive}
 use Rattle.nz_frame.proofs.OrderLemmas.{order_wide, order_only_zero}
-use Rattle.nz_solve.specs.declared.refusal.SolveRefusal.{SolveRefusal}
-use Rattle.nz_solve.specs.Solutions.{AreToldOf, WasToldSome, half, IsSolveRefusal}
+use Rattle.nz_solve.specs.declared.refusal.InnerRefusal.{InnerRefusal}
+use Rattle.nz_solve.specs.Solutions.{AreToldOf, WasToldSome, LeavesWith, IsInnerRefusal}
+use Rattle.nz_solve.proofs.ToldLemmas.{left_of_all, left_where}
 use Rattle.nz_solve.specs.Parts.{AreAllElements, IsSameRefusal}
 use Rattle.nz_solve.proofs.FrameLists.{primal_listed, generators_listed}
 
@@ -87,8 +88,11 @@ module _ (s : System) (base : Base) (pulled : List Vector) (is : IsSystem s) (fr
     },
   )
 
-  pub all_told : (extreme : List Vector) (a c : Watched) → AreGenerators (length base.vectors) pulled (order_forms s.width base.vectors s.grading) extreme → HasPassedAll (ArePlacings (length base.vectors) extreme) 0 a c → HasPassedAll (AreToldOf Primal s) 0 a c
-  all_told extreme a c g h = all_where (ArePlacings (length base.vectors) extreme) (AreToldOf Primal s) (told_back extreme g) 0 a c h
+  pub all_told : (extreme : List Vector) (told : ℕ) (a c : Watched) → AreGenerators (length base.vectors) pulled (order_forms s.width base.vectors s.grading) extreme → HasPassedAll (ArePlacings (length base.vectors) extreme) told a c → HasPassedAll (AreToldOf Primal s) told a c
+  all_told extreme told a c g h = all_where (ArePlacings (length base.vectors) extreme) (AreToldOf Primal s) (told_back extreme g) told a c h
+
+  pub left_told : (extreme : List Vector) (told number : ℕ) (a c : Watched) → AreGenerators (length base.vectors) pulled (order_forms s.width base.vectors s.grading) extreme → HasLeft (ArePlacings (length base.vectors) extreme) told number a c → HasLeft (AreToldOf Primal s) told number a c
+  left_told extreme told number a c g h = left_where (ArePlacings (length base.vectors) extreme) (AreToldOf Primal s) (told_back extreme g) told number a c h
 
   -- ---- what is held
   held_back : (extreme : List Vector) → Each (HasWidth (length base.vectors)) extreme → (c : Vector) → IsListedOrBoxMember (length base.vectors) (IsInRows (length base.vectors) pulled) extreme c → IsListedOrBoxMember base.width (IsMember s) (map (vector_at base) extreme) (vector_at base c)
@@ -122,21 +126,23 @@ module _ (s : System) (base : Base) (pulled : List Vector) (is : IsSystem s) (fr
       (positive, of_held positive (generators_listed s base pulled is fr extreme g) (subst (λ (n : ℕ). MoreThan limit (IsListedOrBoxMember n (IsMember s) (map (vector_at base) extreme))) fr.is_base.width held))
 
   -- ---- refusals
-  some_back : (passed : ℕ) (a c : Watched) → HasPassedFirst (length base.vectors) pulled (order_forms s.width base.vectors s.grading) 0 passed a c → WasToldSome Primal s a c
-  some_back passed a c h = ⊎_elim
+  some_back : (told passed : ℕ) (a c : Watched) → HasPassedFirst (length base.vectors) pulled (order_forms s.width base.vectors s.grading) told passed a c → WasToldSome Primal s told a c
+  some_back told passed a c h = ⊎_elim
       (λ p. inl p.1)
-      (λ p. inr (passed, passed_where (ArePlacings (length base.vectors) p.0) (AreToldOf Primal s) (told_back p.0 p.1) 0 passed a c false p.2))
+      (λ p. inr (passed, passed_where (ArePlacings (length base.vectors) p.0) (AreToldOf Primal s) (told_back p.0 p.1) told passed a c false p.2))
       h
 
-  pub primal_refused : (limit : ℕ) (a c : Watched) (e : Work) (result : SolveRefusal) → IsPrimalRefusal (length base.vectors) pulled (order_forms s.width base.vectors s.grading) limit 0 a c e → WhereRange (IsPrimalReachAbove s half) e → IsSameRefusal e result → IsSolveRefusal Primal s limit a c result
-  primal_refused limit a c (work.Range number) result h r i = subst (IsSolveRefusal Primal s limit a c) (sym i) (r, some_back h.0 a c h.1)
-  primal_refused limit a c work.TooMany result h r i = subst (IsSolveRefusal Primal s limit a c) (sym i) (let cr = crowd_back limit h.0 h.1 h.3 in (cr.0, cr.1, all_told h.0 a c h.1 h.2))
-  primal_refused limit a c (work.Stopped stage) result h r i = subst (IsSolveRefusal Primal s limit a c) (sym i) (stopped_where (ArePlacings (length base.vectors) h.0) (AreToldOf Primal s) (told_back h.0 h.1) 0 stage a c h.2)
-  primal_refused limit a c work.NoMemory result h r i = subst (IsSolveRefusal Primal s limit a c) (sym i) (some_back h.0 a c h.1)
+  left_back : (told passed number : ℕ) (a c : Watched) → HasPassedFirst (length base.vectors) pulled (order_forms s.width base.vectors s.grading) told passed a c → number ≡ max told passed → LeavesWith Primal s told number a c
+  left_back told passed number a c h e = ⊎_elim
+      (λ p. inl (let z = p.0 in omega (arith, e, z), p.1))
+      (λ p. inr (record { passed = passed; telling = passed_where (ArePlacings (length base.vectors) p.0) (AreToldOf Primal s) (told_back p.0 p.1) told passed a c false p.2; is_greater = e }))
+      h
 
--- all told is some told
-pub some_of_all : (s : System) (a c : Watched) → HasPassedAll (AreToldOf Primal s) 0 a c → WasToldSome Primal s a c
-some_of_all s a c h = inr (h.passed, h.telling)
+  pub primal_refused : (half : ℤ) (limit told : ℕ) (a c : Watched) (e : Work) (result : InnerRefusal) → IsPrimalRefusal (length base.vectors) pulled (order_forms s.width base.vectors s.grading) limit told a c e → WhereRange (IsPrimalReachAbove s half) e → IsSameRefusal e result → IsInnerRefusal Primal s half limit told a c result
+  primal_refused half limit told a c (work.Range number) result h r i = subst (IsInnerRefusal Primal s half limit told a c) (sym i) (r, left_back told h.0 number a c h.1 h.2)
+  primal_refused half limit told a c work.TooMany result h r i = subst (IsInnerRefusal Primal s half limit told a c) (sym i) (let cr = crowd_back limit h.0 h.1 h.3 in (cr.0, cr.1, all_told h.0 told a c h.1 h.2))
+  primal_refused half limit told a c (work.Stopped stage) result h r i = subst (IsInnerRefusal Primal s half limit told a c) (sym i) (stopped_where (ArePlacings (length base.vectors) h.0) (AreToldOf Primal s) (told_back h.0 h.1) told stage a c h.2)
+  primal_refused half limit told a c work.NoMemory result h r i = subst (IsInnerRefusal Primal s half limit told a c) (sym i) (some_back told h.0 a c h.1)
 
 -- ---- the same where the number of base vectors is that of the places of a simplex, and the order has another name
 module _ (s : System) (base : Base) (pulled : List Vector) (is : IsSystem s) (fr : IsFrame s base pulled) (places : List ℕ) (rays : List Vector) (sx : IsSimplexOf (length base.vectors) pulled places rays) (order : List Vector) (eo : order ≡ order_forms s.width base.vectors s.grading) where
@@ -173,11 +179,11 @@ module _ (s : System) (base : Base) (pulled : List Vector) (is : IsSystem s) (fr
   pub elements_at : (list extreme list' extreme' : List Vector) (simplices simplices' : List (List ℕ)) (forms : List (List Vector)) → ArePrimalLists (length places) pulled order list extreme simplices forms → list' ≡ map (vector_at base) list → extreme' ≡ map (vector_at base) extreme → simplices' ≡ simplices → AreAllElements s list' extreme' simplices'
   elements_at list extreme list' extreme' simplices simplices' forms p el ex e = subst (AreAllElements s list' extreme') (sym e) (elements_back s base pulled is fr pt list extreme list' extreme' simplices forms (lists_at list extreme simplices forms p) el ex)
 
-  pub told_at : (list extreme : List Vector) (simplices : List (List ℕ)) (forms : List (List Vector)) (a c : Watched) → ArePrimalLists (length places) pulled order list extreme simplices forms × HasPassedAll (ArePlacings (length places) extreme) 0 a c → HasPassedAll (AreToldOf Primal s) 0 a c
-  told_at list extreme simplices forms a c h = all_told s base pulled is fr pt extreme a c (lists_at list extreme simplices forms h.0).generators (subst (λ (n : ℕ). HasPassedAll (ArePlacings n extreme) 0 a c) (sym same_width) h.1)
+  pub told_at : (list extreme : List Vector) (simplices : List (List ℕ)) (forms : List (List Vector)) (told : ℕ) (a c : Watched) → ArePrimalLists (length places) pulled order list extreme simplices forms × HasPassedAll (ArePlacings (length places) extreme) told a c → HasPassedAll (AreToldOf Primal s) told a c
+  told_at list extreme simplices forms told a c h = all_told s base pulled is fr pt extreme told a c (lists_at list extreme simplices forms h.0).generators (subst (λ (n : ℕ). HasPassedAll (ArePlacings n extreme) told a c) (sym same_width) h.1)
 
-  pub some_told_at : (list extreme : List Vector) (simplices : List (List ℕ)) (forms : List (List Vector)) (a c : Watched) → ArePrimalLists (length places) pulled order list extreme simplices forms × HasPassedAll (ArePlacings (length places) extreme) 0 a c → WasToldSome Primal s a c
-  some_told_at list extreme simplices forms a c h = some_of_all s a c (told_at list extreme simplices forms a c h)
+  pub left_at : (list extreme : List Vector) (simplices : List (List ℕ)) (forms : List (List Vector)) (told number count : ℕ) (a c : Watched) → ArePrimalLists (length places) pulled order list extreme simplices forms × HasPassedAll (ArePlacings (length places) extreme) told a c → HasStageCount (length places) extreme count → number ≡ max told count → HasLeft (AreToldOf Primal s) told number a c
+  left_at list extreme simplices forms told number count a c h law e = left_told s base pulled is fr pt extreme told number a c (lists_at list extreme simplices forms h.0).generators (subst (λ (n : ℕ). HasLeft (ArePlacings n extreme) told number a c) (sym same_width) (left_of_all (ArePlacings (length places) extreme) told number count a c h.1 law e))
 
-  pub refused_at : (limit : ℕ) (a c : Watched) (e : Work) (result : SolveRefusal) → IsPrimalRefusal (length places) pulled order limit 0 a c e → WhereRange (IsPrimalReachAbove s half) e → IsSameRefusal e result → IsSolveRefusal Primal s limit a c result
-  refused_at limit a c e result h r i = primal_refused s base pulled is fr pt limit a c e result (subst (λ (n : ℕ). IsPrimalRefusal n pulled (order_forms s.width base.vectors s.grading) limit 0 a c e) (sym same_width) (subst (λ (o : List Vector). IsPrimalRefusal (length places) pulled o limit 0 a c e) eo h)) r i
+  pub refused_at : (half : ℤ) (limit told : ℕ) (a c : Watched) (e : Work) (result : InnerRefusal) → IsPrimalRefusal (length places) pulled order limit told a c e → WhereRange (IsPrimalReachAbove s half) e → IsSameRefusal e result → IsInnerRefusal Primal s half limit told a c result
+  refused_at half limit told a c e result h r i = primal_refused s base pulled is fr pt half limit told a c e result (subst (λ (n : ℕ). IsPrimalRefusal n pulled (order_forms s.width base.vectors s.grading) limit told a c e) (sym same_width) (subst (λ (o : List Vector). IsPrimalRefusal (length places) pulled o limit told a c e) eo h)) r i

@@ -1,7 +1,5 @@
 -- A refused part as a refusal of the system: the number that was too large is one that the run is known to form.
 use Rattle.std.proofs.Common.{◌≡◌, ◌⊎◌, inl, inr, ⊎_elim, ℕ, suc, ◌<◌, ◌≤◌, List, [], ◌∷◌, length, map, get_or, ℤ, pos, ◌*ℤ◌, ◌<ℤ◌, ◌≤ℤ◌, unsigned_abs, Option, Some, None, refl, sym, ap, ◌∙◌, subst, arith}
-use Rattle.std.specs.Prelude.{FitsSigned}
-use Rattle.std.specs.Int.{w128}
 use Rattle.std.proofs.lemmas.Int.{ints, by_lt_z}
 use Rattle.std.specs.List.{AllByRecursion as Each, Contains}
 use Rattle.nz_spec.specs.Vectors.{Vector, dot, opposite, combination, unit_vectors, HasWidth}
@@ -33,7 +31,7 @@ use Rattle.nz_vec.specs.declared.answers.Work.TheVariants as work
 use Rattle.nz_pointed.specs.Pointed.{IsSimplexOf, IsLineOf, IsTooLarge}
 use Rattle.nz_sweep.specs.Bases.{Base, CombinationSumsFit, ValueSumsFit}
 use Rattle.nz_sweep.specs.Lists.{LacksPull, LacksVector}
-use Rattle.nz_watch.specs.Telling.{Watched, HasPassedAll}
+use Rattle.nz_watch.specs.Telling.{Watched, HasPassedAll, HasLeft}
 use Rattle.nz_input.specs.declared.kind.Mode.{Mode}
 use Rattle.nz_input.specs.declared.kind.Mode.TheVariants.{Primal, Dual}
 use Rattle.nz_degree.specs.Degrees.{LacksDegree}
@@ -47,36 +45,38 @@ use Rattle.nz_measures.proofs.SystemCauses.{unit_pulled_above, units_ordered, ex
 use Rattle.nz_frame.specs.Frames.{IsFrame, order_forms, vector_at, LacksMultiple, LacksLine, of_vector, of_sign}
 use Rattle.nz_solve.specs.declared.refusal.SolveRefusal.{SolveRefusal}
 use Rattle.nz_solve.specs.declared.refusal.SolveRefusal.TheVariants.{Line, Grade, Range, TooMany, Stopped, NoMemory}
-use Rattle.nz_solve.specs.Solutions.{half, AreToldOf, WasToldSome, IsReachAbove, IsSolveRefusal}
-use Rattle.nz_solve.specs.Parts.{IsReckonRefusal, IsLineRefusal, IsOutcomeRefusal}
+use Rattle.nz_solve.specs.declared.refusal.InnerRefusal.{InnerRefusal}
+use Rattle.nz_solve.specs.Solutions.{AreToldOf, LeavesWith, IsReachAbove, IsInnerRefusal}
+use Rattle.nz_solve.specs.Parts.{IsCountedRefusal, IsToldRefusal, IsLineRefusal, IsOutcomeRefusal}
+use Rattle.nz_solve.proofs.ToldLemmas.{some_left}
 
 -- ---- a call that only reckons
-pub reckon_refused : (mode : Mode) (s : System) (limit : ℕ) (before now : Watched) → WasToldSome mode s before now → (e : Num) (r : SolveRefusal) → (e ≡ num.Range → IsReachAbove mode s half) → IsReckonRefusal e r → IsSolveRefusal mode s limit before now r
-reckon_refused mode s limit before now t num.Range r f i = subst (IsSolveRefusal mode s limit before now) (sym i) (f refl, t)
-reckon_refused mode s limit before now t num.NoMemory r f i = subst (IsSolveRefusal mode s limit before now) (sym i) t
+pub reckon_refused : (mode : Mode) (s : System) (bound : ℤ) (limit told number : ℕ) (before now : Watched) → LeavesWith mode s told number before now → (e : Num) (r : InnerRefusal) → (e ≡ num.Range → IsReachAbove mode s bound) → IsCountedRefusal number e r → IsInnerRefusal mode s bound limit told before now r
+reckon_refused mode s bound limit told number before now t num.Range r f i = subst (IsInnerRefusal mode s bound limit told before now) (sym i) (f refl, t)
+reckon_refused mode s bound limit told number before now t num.NoMemory r f i = subst (IsInnerRefusal mode s bound limit told before now) (sym i) (some_left mode s told number before now t)
 
 -- a number in the coordinates of the file is the cause in both modes
-pub own_reach : (mode : Mode) (s : System) → HasOwnAbove s half → IsReachAbove mode s half
-own_reach Primal s h = inl h
-own_reach Dual s h = inl h
+pub own_reach : (mode : Mode) (s : System) (bound : ℤ) → HasOwnAbove s bound → IsReachAbove mode s bound
+own_reach Primal s bound h = inl h
+own_reach Dual s bound h = inl h
 
 -- a refusal by the algorithm of the mode
-pub refused_by : (mode by : Mode) (s : System) (limit : ℕ) (before now : Watched) (r : SolveRefusal) → mode ≡ by → IsSolveRefusal by s limit before now r → IsSolveRefusal mode s limit before now r
-refused_by mode by s limit before now r e h = subst (λ (m : Mode). IsSolveRefusal m s limit before now r) (sym e) h
+pub refused_by : (mode by : Mode) (s : System) (bound : ℤ) (limit told : ℕ) (before now : Watched) (r : InnerRefusal) → mode ≡ by → IsInnerRefusal by s bound limit told before now r → IsInnerRefusal mode s bound limit told before now r
+refused_by mode by s bound limit told before now r e h = subst (λ (m : Mode). IsInnerRefusal m s bound limit told before now r) (sym e) h
 
 -- nothing more is told after the elements are found
-pub outcome_refused : (mode : Mode) (s : System) (limit : ℕ) (before now : Watched) → IsPositive (IsMember s) → HasPassedAll (AreToldOf mode s) 0 before now → (r : SolveRefusal) → IsOutcomeRefusal s r → IsSolveRefusal mode s limit before now r
-outcome_refused mode s limit before now p t (Line v) h = absurd h
-outcome_refused mode s limit before now p t (Grade x) h = (p, h, t)
-outcome_refused mode s limit before now p t Range h = (own_reach mode s h, inr (t.passed, t.telling))
-outcome_refused mode s limit before now p t TooMany h = absurd h
-outcome_refused mode s limit before now p t (Stopped stage) h = absurd h
-outcome_refused mode s limit before now p t NoMemory h = inr (t.passed, t.telling)
+pub outcome_refused : (mode : Mode) (s : System) (bound : ℤ) (limit told number : ℕ) (before now : Watched) → IsPositive (IsMember s) → HasPassedAll (AreToldOf mode s) told before now → HasLeft (AreToldOf mode s) told number before now → (r : SolveRefusal) (i : InnerRefusal) → IsOutcomeRefusal bound s r → IsToldRefusal number r i → IsInnerRefusal mode s bound limit told before now i
+outcome_refused mode s bound limit told number before now p t l (Line v) i h e = absurd h
+outcome_refused mode s bound limit told number before now p t l (Grade x) i h e = subst (IsInnerRefusal mode s bound limit told before now) (sym e) (p, h, t)
+outcome_refused mode s bound limit told number before now p t l Range i h e = subst (IsInnerRefusal mode s bound limit told before now) (sym e) (own_reach mode s bound h, inr l)
+outcome_refused mode s bound limit told number before now p t l TooMany i h e = absurd h
+outcome_refused mode s bound limit told number before now p t l (Stopped stage) i h e = absurd h
+outcome_refused mode s bound limit told number before now p t l NoMemory i h e = subst (IsInnerRefusal mode s bound limit told before now) (sym e) (inr (t.passed, t.telling))
 
 -- a line that is not shown
-pub line_reckoned : (b : Base) (line : Vector) (e : Num) (r : SolveRefusal) → (e ≡ num.Range → LacksLine (FitsSigned w128) b line) → IsReckonRefusal e r → IsLineRefusal b line r
-line_reckoned b line num.Range r f i = subst (IsLineRefusal b line) (sym i) (f refl)
-line_reckoned b line num.NoMemory r f i = subst (IsLineRefusal b line) (sym i) tt
+pub line_reckoned : (fits : ℤ → Type 0) (told : ℕ) (b : Base) (line : Vector) (e : Num) (r : InnerRefusal) → (e ≡ num.Range → LacksLine fits b line) → IsCountedRefusal told e r → IsLineRefusal fits told b line r
+line_reckoned fits told b line num.Range r f i = subst (IsLineRefusal fits told b line) (sym i) (f refl, refl)
+line_reckoned fits told b line num.NoMemory r f i = subst (IsLineRefusal fits told b line) (sym i) tt
 
 -- ---- places
 place_of : {A : Type 0} (d : A) (xs : List A) (x : A) → Contains xs x → (j : ℕ) × (j < length xs) × (get_or xs j d ≡ x)
@@ -94,7 +94,7 @@ large_entry h fits room t a u out = by_lt_z h (pos (unsigned_abs a)) (λ l. l) (
     size t a u = grind (arith, ints)
 
 -- ---- in a frame
-module _ (s : System) (base : Base) (pulled : List Vector) (fr : IsFrame s base pulled) (swept : IsSwept s base) (fits : ℤ → Type 0) (room : HasRoom half fits) where
+module _ (s : System) (base : Base) (pulled : List Vector) (fr : IsFrame s base pulled) (swept : IsSwept s base) (half : ℤ) (fits : ℤ → Type 0) (room : HasRoom half fits) where
   abbrev order : List Vector
   order = map (λ (h : Vector). in_coordinates base.vectors h) (order_of s)
 
@@ -209,12 +209,12 @@ module _ (s : System) (base : Base) (pulled : List Vector) (fr : IsFrame s base 
 
 -- ---- of the elements
 -- the description of the extreme generators is refused
-pub described_refused : (s : System) (extreme : List Vector) → IsPositive (IsMember s) → AreExtreme s extreme → IsTooLarge half s.width extreme → HasOwnAbove s half
-described_refused s extreme p a k = extreme_described_above half s extreme p a k
+pub described_refused : (s : System) (half : ℤ) (extreme : List Vector) → IsPositive (IsMember s) → AreExtreme s extreme → IsTooLarge half s.width extreme → HasOwnAbove s half
+described_refused s half extreme p a k = extreme_described_above half s extreme p a k
 
 -- the degree of a named vector is no value
-pub degree_refused : (s : System) (fits : ℤ → Type 0) → HasRoom half fits → (grading : Vector) → s.grading ≡ Some grading → (xs : List Vector) → Each (IsAmbientVector s) xs → LacksDegree fits grading xs → HasOwnAbove s half
-degree_refused s fits room grading given xs named k = of_ambient (pool_pair half (IsAmbientVector s) (IsAmbientForm s) grading k.row (pools.grading given) (Each-contains (IsAmbientVector s) xs k.row named k.listed) (value_cause half fits room grading k.row k.lacks))
+pub degree_refused : (s : System) (half : ℤ) (fits : ℤ → Type 0) → HasRoom half fits → (grading : Vector) → s.grading ≡ Some grading → (xs : List Vector) → Each (IsAmbientVector s) xs → LacksDegree fits grading xs → HasOwnAbove s half
+degree_refused s half fits room grading given xs named k = of_ambient (pool_pair half (IsAmbientVector s) (IsAmbientForm s) grading k.row (pools.grading given) (Each-contains (IsAmbientVector s) xs k.row named k.listed) (value_cause half fits room grading k.row k.lacks))
 
 pub irreducible_named : (s : System) → IsPositive (IsMember s) → (xs : List Vector) → Each (IsIrreducible (IsMember s)) xs → Each (IsAmbientVector s) xs
 irreducible_named s p xs i = each_map (IsIrreducible (IsMember s)) (IsAmbientVector s) xs (λ x k. irreducible p k) i

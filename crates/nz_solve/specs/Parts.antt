@@ -25,13 +25,14 @@ use Rattle.nz_blocks.specs.Outcomes.{Asked, at_level}
 use Rattle.nz_frame.specs.Elements.{IsGraded}
 use Rattle.nz_frame.specs.Frames.{vector_at, IsLed, LacksLine}
 use Rattle.nz_solve.specs.Replies.{IsWhere}
-use Rattle.nz_solve.specs.Solutions.{half}
 use Rattle.nz_vec.specs.declared.answers.Num.{Num}
 use Rattle.nz_vec.specs.declared.answers.Num.TheVariants as num
 use Rattle.nz_vec.specs.declared.answers.Work.{Work}
 use Rattle.nz_vec.specs.declared.answers.Work.TheVariants as work
 use Rattle.nz_solve.specs.declared.refusal.SolveRefusal.{SolveRefusal}
 use Rattle.nz_solve.specs.declared.refusal.SolveRefusal.TheVariants.{Line, Grade, Range, TooMany, Stopped, NoMemory}
+use Rattle.nz_solve.specs.declared.refusal.InnerRefusal.{InnerRefusal}
+use Rattle.nz_solve.specs.declared.refusal.InnerRefusal.TheVariants as inner
 
 -- ---- elements
 
@@ -84,13 +85,13 @@ abbrev pub IsLevelCause : (ℤ → Type 0) → Bool → Option Vector → (zero 
 IsLevelCause fits level grading zero one = LacksSomeDegree fits grading zero ⊎ (IsTrue level × LacksSomeDegree fits grading one)
 
 -- why degrees are refused
-abbrev pub IsDegreeRefusal : Option Vector → List Vector → SolveRefusal → Type 0
-IsDegreeRefusal grading list (Line v) = ⊥
-IsDegreeRefusal grading list (Grade x) = IsNotPositiveAt grading list x
-IsDegreeRefusal grading list Range = LacksSomeDegree (FitsSigned w128) grading list
-IsDegreeRefusal grading list TooMany = ⊥
-IsDegreeRefusal grading list (Stopped stage) = ⊥
-IsDegreeRefusal grading list NoMemory = ⊤
+abbrev pub IsDegreeRefusal : (ℤ → Type 0) → Option Vector → List Vector → SolveRefusal → Type 0
+IsDegreeRefusal fits grading list (Line v) = ⊥
+IsDegreeRefusal fits grading list (Grade x) = IsNotPositiveAt grading list x
+IsDegreeRefusal fits grading list Range = LacksSomeDegree fits grading list
+IsDegreeRefusal fits grading list TooMany = ⊥
+IsDegreeRefusal fits grading list (Stopped stage) = ⊥
+IsDegreeRefusal fits grading list NoMemory = ⊤
 
 -- the same rows in order
 pub record IsSorted (grading : Option Vector) (list sorted : List Vector) : Type 0 where
@@ -131,8 +132,8 @@ amb_at true width = width - 1
 amb_at false width = width
 
 -- why something is not shown: a degree is no value, or the description of the extreme generators forms a number above the half
-abbrev pub IsShownCause : SystemData → (extreme hilbert : List Vector) → Type 0
-IsShownCause s extreme hilbert = LacksSomeDegree (FitsSigned w128) s.system.grading hilbert ⊎ (IsTrue s.goals.hyperplanes × IsTooLarge half s.system.width extreme)
+abbrev pub IsShownCause : (h : ℤ) → (ℤ → Type 0) → SystemData → (extreme hilbert : List Vector) → Type 0
+IsShownCause h fits s extreme hilbert = LacksSomeDegree fits s.system.grading hilbert ⊎ (IsTrue s.goals.hyperplanes × IsTooLarge h s.system.width extreme)
 
 -- ---- asked vectors
 
@@ -157,31 +158,54 @@ pub record LacksReply (fits : ℤ → Type 0) (cs : List Constraint) (level : Bo
 -- ---- refusals
 
 -- why the elements give no outcome: a degree that is not positive, or a number above the half
-abbrev pub IsOutcomeRefusal : System → SolveRefusal → Type 0
-IsOutcomeRefusal s (Line v) = ⊥
-IsOutcomeRefusal s (Grade x) = IsFirstNotPositive s x
-IsOutcomeRefusal s Range = HasOwnAbove s half
-IsOutcomeRefusal s TooMany = ⊥
-IsOutcomeRefusal s (Stopped stage) = ⊥
-IsOutcomeRefusal s NoMemory = ⊤
+abbrev pub IsOutcomeRefusal : (h : ℤ) → System → SolveRefusal → Type 0
+IsOutcomeRefusal h s (Line v) = ⊥
+IsOutcomeRefusal h s (Grade x) = IsFirstNotPositive s x
+IsOutcomeRefusal h s Range = HasOwnAbove s h
+IsOutcomeRefusal h s TooMany = ⊥
+IsOutcomeRefusal h s (Stopped stage) = ⊥
+IsOutcomeRefusal h s NoMemory = ⊤
 
 -- the same refusal, of a call that only reckons
 abbrev pub IsReckonRefusal : Num → SolveRefusal → Type 0
 IsReckonRefusal num.Range r = r ≡ Range
 IsReckonRefusal num.NoMemory r = r ≡ NoMemory
 
--- the same refusal, without the number of stages told
-abbrev pub IsSameRefusal : Work → SolveRefusal → Type 0
-IsSameRefusal (work.Range told) r = r ≡ Range
-IsSameRefusal work.TooMany r = r ≡ TooMany
-IsSameRefusal (work.Stopped stage) r = r ≡ Stopped stage
-IsSameRefusal work.NoMemory r = r ≡ NoMemory
+-- the same, with the number of stages told
+abbrev pub IsCountedRefusal : (told : ℕ) → Num → InnerRefusal → Type 0
+IsCountedRefusal told num.Range r = r ≡ inner.Range told
+IsCountedRefusal told num.NoMemory r = r ≡ inner.NoMemory
+
+-- the same refusal, of a call that works in stages
+abbrev pub IsSameRefusal : Work → InnerRefusal → Type 0
+IsSameRefusal (work.Range told) r = r ≡ inner.Range told
+IsSameRefusal work.TooMany r = r ≡ inner.TooMany
+IsSameRefusal (work.Stopped stage) r = r ≡ inner.Stopped stage
+IsSameRefusal work.NoMemory r = r ≡ inner.NoMemory
+
+-- the same refusal, with the number of stages told
+abbrev pub IsToldRefusal : (told : ℕ) → SolveRefusal → InnerRefusal → Type 0
+IsToldRefusal told (Line v) r = r ≡ inner.Line v
+IsToldRefusal told (Grade x) r = r ≡ inner.Grade x
+IsToldRefusal told Range r = r ≡ inner.Range told
+IsToldRefusal told TooMany r = r ≡ inner.TooMany
+IsToldRefusal told (Stopped stage) r = r ≡ inner.Stopped stage
+IsToldRefusal told NoMemory r = r ≡ inner.NoMemory
+
+-- the same refusal, without it
+abbrev pub IsOuterRefusal : InnerRefusal → SolveRefusal → Type 0
+IsOuterRefusal (inner.Line v) r = r ≡ Line v
+IsOuterRefusal (inner.Grade x) r = r ≡ Grade x
+IsOuterRefusal (inner.Range told) r = r ≡ Range
+IsOuterRefusal inner.TooMany r = r ≡ TooMany
+IsOuterRefusal (inner.Stopped stage) r = r ≡ Stopped stage
+IsOuterRefusal inner.NoMemory r = r ≡ NoMemory
 
 -- the line of a base, or why it is not shown
-abbrev pub IsLineRefusal : Base → Vector → SolveRefusal → Type 0
-IsLineRefusal b line (Line v) = IsLed (vector_at b line) v
-IsLineRefusal b line (Grade x) = ⊥
-IsLineRefusal b line Range = LacksLine (FitsSigned w128) b line
-IsLineRefusal b line TooMany = ⊥
-IsLineRefusal b line (Stopped stage) = ⊥
-IsLineRefusal b line NoMemory = Unit {0}
+abbrev pub IsLineRefusal : (ℤ → Type 0) → (told : ℕ) → Base → Vector → InnerRefusal → Type 0
+IsLineRefusal fits told b line (inner.Line v) = IsLed (vector_at b line) v
+IsLineRefusal fits told b line (inner.Grade x) = ⊥
+IsLineRefusal fits told b line (inner.Range number) = LacksLine fits b line × (number ≡ told)
+IsLineRefusal fits told b line inner.TooMany = ⊥
+IsLineRefusal fits told b line (inner.Stopped stage) = ⊥
+IsLineRefusal fits told b line inner.NoMemory = Unit {0}

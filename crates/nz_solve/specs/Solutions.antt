@@ -1,11 +1,11 @@
 -- What a solved system answers, in both modes, and why there is no outcome.
-use Rattle.std.specs.Prelude.{◌≡◌, ◌⊎◌, ◌^◌, ◌&&◌, ◌||◌, is_some, ℕ, ℤ, pos, Bool, false, List, []}
+use Rattle.std.specs.Prelude.{◌≡◌, ◌⊎◌, ◌≤◌, ◌^◌, ◌&&◌, ◌||◌, is_some, ℕ, ℤ, pos, Bool, false, List, []}
 use Rattle.nz_spec.specs.Systems.{System, IsMember, file_width}
 use Rattle.nz_spec.specs.Monoids.{IsPositive, IsLeastLine}
 use Rattle.nz_spec.specs.Elements.{IsHilbertBasis, AreModuleGenerators, AreDegreeOne, AreRays, AreVertices, IsSupportDescription, IsCoverOf, IsFirstNotPositive}
 use Rattle.nz_spec.specs.Stages.{ArePrimalStages, AreDualStages, AreTold}
 use Rattle.nz_watch.specs.Watching.{Pair}
-use Rattle.nz_watch.specs.Telling.{Watched, WasTold, HasPassed, HasPassedAll, HasStopped}
+use Rattle.nz_watch.specs.Telling.{Watched, WasTold, HasPassed, HasPassedAll, HasStopped, HasLeft}
 use Rattle.nz_measures.specs.Crowds.{IsPrimalCrowdAbove}
 use Rattle.nz_measures.specs.Reaches.{IsPrimalReachAbove, IsDualReachAbove}
 use Rattle.nz_input.specs.declared.kind.Mode.{Mode}
@@ -17,6 +17,8 @@ use Rattle.nz_frame.specs.DualCrowds.{IsDualCrowd}
 use Rattle.nz_solve.specs.Replies.{IsWhere, AreWhere, AreAnswered}
 use Rattle.nz_solve.specs.declared.refusal.SolveRefusal.{SolveRefusal}
 use Rattle.nz_solve.specs.declared.refusal.SolveRefusal.TheVariants.{Line, Grade, Range, TooMany, Stopped, NoMemory}
+use Rattle.nz_solve.specs.declared.refusal.InnerRefusal.{InnerRefusal}
+use Rattle.nz_solve.specs.declared.refusal.InnerRefusal.TheVariants as inner
 
 -- the Hilbert basis is wanted where its goal is on, or vectors are asked
 abbrev pub wants_basis : SystemData → Bool
@@ -54,14 +56,26 @@ AreStagesOf Dual s pairs = AreDualStages s pairs
 abbrev pub AreToldOf : Mode → System → List Pair → Type 0
 AreToldOf mode s pairs = AreTold (AreStagesOf mode) s pairs
 
--- the watch was told nothing yet, or some first stages, and no stop came
-abbrev pub WasToldSome : Mode → System → Watched → Watched → Type 0
-WasToldSome mode s before now = WasTold before now [] false ⊎ ((passed : ℕ) × HasPassed (AreToldOf mode s) 0 passed before now false)
+-- the watch was told nothing yet, or some first stages without those that it was told before the call, and no stop came
+abbrev pub WasToldSome : Mode → System → ℕ → Watched → Watched → Type 0
+WasToldSome mode s told before now = WasTold before now [] false ⊎ ((passed : ℕ) × HasPassed (AreToldOf mode s) told passed before now false)
+
+-- the same, and the number is that of the first stages that the watch was told, before the call or in it
+abbrev pub LeavesWith : Mode → System → (told number : ℕ) → Watched → Watched → Type 0
+LeavesWith mode s told number before now = ((number ≡ told) × WasTold before now [] false) ⊎ HasLeft (AreToldOf mode s) told number before now
+
+-- a stage, or the first one, has to hold more than the limit, and the watch was told the stages before it
+pub record IsStageCrowd (s : System) (limit told : ℕ) (before now : Watched) : Type 0 where
+  pub earlier : ℕ
+  pub crowd : IsDualCrowd s limit earlier
+  pub passed : ℕ
+  pub told_those : earlier ≤ passed
+  pub telling : HasPassed (AreToldOf Dual s) told passed before now false
 
 -- there is no line, and there are more vectors than the limit. In primal mode: the crowd of the primal algorithm, and the watch was told all stages. In dual mode: what the first stage has to hold, or a stage or a reversed stage, and the watch was told the stages before it.
-abbrev pub IsCrowd : Mode → System → ℕ → Watched → Watched → Type 0
-IsCrowd Primal s limit before now = IsPositive (IsMember s) × IsPrimalCrowdAbove s limit × HasPassedAll (AreToldOf Primal s) 0 before now
-IsCrowd Dual s limit before now = (passed : ℕ) × IsDualCrowd s limit passed × HasPassed (AreToldOf Dual s) 0 passed before now false
+abbrev pub IsCrowd : Mode → System → (limit told : ℕ) → Watched → Watched → Type 0
+IsCrowd Primal s limit told before now = IsPositive (IsMember s) × IsPrimalCrowdAbove s limit × HasPassedAll (AreToldOf Primal s) told before now
+IsCrowd Dual s limit told before now = IsStageCrowd s limit told before now
 
 -- the size up to which two numbers of a run can be multiplied, and two such products added
 abbrev pub half : ℤ
@@ -76,7 +90,16 @@ IsReachAbove Dual s n = IsDualReachAbove s n
 abbrev pub IsSolveRefusal : Mode → System → (limit : ℕ) → (before now : Watched) → SolveRefusal → Type 0
 IsSolveRefusal mode s limit before now (Line v) = IsLeastLine (IsMember s) v × WasTold before now [] false
 IsSolveRefusal mode s limit before now (Grade x) = IsPositive (IsMember s) × IsFirstNotPositive s x × HasPassedAll (AreToldOf mode s) 0 before now
-IsSolveRefusal mode s limit before now Range = IsReachAbove mode s half × WasToldSome mode s before now
-IsSolveRefusal mode s limit before now TooMany = IsCrowd mode s limit before now
+IsSolveRefusal mode s limit before now Range = IsReachAbove mode s half × WasToldSome mode s 0 before now
+IsSolveRefusal mode s limit before now TooMany = IsCrowd mode s limit 0 before now
 IsSolveRefusal mode s limit before now (Stopped stage) = HasStopped (AreToldOf mode s) 0 stage before now
-IsSolveRefusal mode s limit before now NoMemory = WasToldSome mode s before now
+IsSolveRefusal mode s limit before now NoMemory = WasToldSome mode s 0 before now
+
+-- the same with integers of a type in which two numbers up to h can be multiplied, where the watch was told some first stages before; a number above h leaves with the number of stages told
+abbrev pub IsInnerRefusal : Mode → System → (h : ℤ) → (limit told : ℕ) → (before now : Watched) → InnerRefusal → Type 0
+IsInnerRefusal mode s h limit told before now (inner.Line v) = IsLeastLine (IsMember s) v × WasTold before now [] false
+IsInnerRefusal mode s h limit told before now (inner.Grade x) = IsPositive (IsMember s) × IsFirstNotPositive s x × HasPassedAll (AreToldOf mode s) told before now
+IsInnerRefusal mode s h limit told before now (inner.Range number) = IsReachAbove mode s h × LeavesWith mode s told number before now
+IsInnerRefusal mode s h limit told before now inner.TooMany = IsCrowd mode s limit told before now
+IsInnerRefusal mode s h limit told before now (inner.Stopped stage) = HasStopped (AreToldOf mode s) told stage before now
+IsInnerRefusal mode s h limit told before now inner.NoMemory = WasToldSome mode s told before now

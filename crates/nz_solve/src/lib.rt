@@ -15,7 +15,8 @@ mod outcomes;
 mod refusal;
 mod replies;
 mod solving;
+mod widening;
 
 pub use laws::modes_agree;
-pub use refusal::SolveRefusal;
-pub use solving::solve;
+pub use refusal::{InnerRefusal, SolveRefusal};
+pub use solving::{solve, solve_in};

@@ -10,7 +10,7 @@ ghost use Rattle.nz_solve.specs.Parts.{AreLevels, ArePositive, IsDegreeRefusal, 
 
 use crate::refusal::{SolveRefusal, unreckoned};
 use nz_degree::{Levels, Positivity, check, sort, split};
-use nz_system::System;
+use nz_system::SystemOver;
 use nz_vec::{Ints, NoMemory, Num, Row, Rows, Scalar};
 use std::alloc::Global;
 
@@ -23,14 +23,14 @@ pub(crate) struct ElementLists<T: Scalar> {
 
 /// The lists of a system whose irreducible elements these are, in order; or the first of the Hilbert
 /// basis, where its degree is 0 or less.
-pub(crate) fn element_lists(
+pub(crate) fn element_lists<T: Scalar>(
     alloc: Global,
-    system: &System,
-    list: Rows<i128>,
-) -> Result<ElementLists<i128>, SolveRefusal>
+    system: &SystemOver<T>,
+    list: Rows<T>,
+) -> Result<ElementLists<T>, SolveRefusal>
     requires positive { IsPositive (IsMember system.now.system) }
     requires list { ListsOnce (IsIrreducible (IsMember system.now.system)) list }
-    ensures { MatchResult result (λ l. AreElementLists system.now.system l.hilbert l.modules) (IsOutcomeRefusal system.now.system) }
+    ensures { MatchResult result (λ l. AreElementLists system.now.system l.hilbert l.modules) (IsOutcomeRefusal T.HALF system.now.system) }
 {
     system.kept();
     let levels = match by_level(alloc, system.level, list) {
@@ -62,13 +62,13 @@ fn by_level<T: Scalar>(alloc: Global, level: bool, list: Rows<T>) -> Result<Leve
 }
 
 // Refuses rows of which one has a degree of 0 or less, and names the first of these.
-fn check_degrees(
+fn check_degrees<T: Scalar>(
     alloc: Global,
-    grading: &Option<Row<i128>>,
-    list: &Rows<i128>,
+    grading: &Option<Row<T>>,
+    list: &Rows<T>,
 ) -> Result<(), SolveRefusal>
     requires { IfSome grading.now (λ g. Each (HasWidth (length g)) list.now) }
-    ensures { MatchResult result (λ _. ArePositive grading.now list.now) (IsDegreeRefusal grading.now list.now) }
+    ensures { MatchResult result (λ _. ArePositive grading.now list.now) (IsDegreeRefusal T.fits grading.now list.now) }
 {
     let grading = match grading {
         Some(grading) => grading,

@@ -1,5 +1,5 @@
 // The outcome of a system: of its elements what the goals ask.
-ghost use Rattle.std.specs.Prelude.{◌≡◌, ◌≢◌, ◌^◌, ◌≤◌, pos, length, IsTrue, IfOk, IfErr, IfSome, MatchResult};
+ghost use Rattle.std.specs.Prelude.{◌≡◌, ◌≢◌, ◌≤◌, length, IsTrue, IfOk, IfErr, IfSome, MatchResult};
 ghost use Rattle.nz_pointed.specs.Pointed.{IsTooLarge};
 ghost use Rattle.std.specs.List.{AllByRecursion as Each};
 ghost use Rattle.nz_spec.specs.Vectors.{HasWidth};
@@ -11,42 +11,48 @@ ghost use Rattle.nz_solve.specs.Solutions.{IsSolution, wants_basis, wants_module
 ghost use Rattle.nz_solve.specs.Parts.{AreElements, AreOnes, AreParted, LacksSomeDegree, IsShownCause, IsOutcomeRefusal, wants_description, amb_at, kept_where};
 
 use crate::elements::Elements;
-use crate::lists::element_lists;
+use crate::lists::{ElementLists, element_lists};
 use crate::refusal::{SolveRefusal, unreckoned};
 use crate::replies::answer_asked;
+use crate::widening::{widen_given, widen_rows};
 use nz_blocks::Outcome;
 use nz_degree::{degree_one, split_extreme};
 use nz_facets::describe;
-use nz_system::System;
+use nz_system::SystemOver;
 use nz_vec::{NoMemory, Num, PlaceLists, Row, Rows, Scalar};
 use std::alloc::Global;
 
-/// The outcome of the system with these elements, or the first of its Hilbert basis where its degree is
-/// 0 or less.
-pub(crate) fn outcome(
+/// The outcome of the system with these elements, at the greatest width, or the first of its Hilbert basis
+/// where its degree is 0 or less.
+pub(crate) fn outcome<T: Scalar>(
     alloc: Global,
-    system: &System,
-    elements: Elements<i128>,
+    system: &SystemOver<T>,
+    elements: Elements<T>,
 ) -> Result<Outcome, SolveRefusal>
     requires { AreElements system.now elements.list elements.extreme elements.simplices }
-    ensures { MatchResult result (IsSolution system.now) (IsOutcomeRefusal system.now.system) }
+    ensures { MatchResult result (IsSolution system.now) (IsOutcomeRefusal T.HALF system.now.system) }
 {
     system.kept();
     let Elements {
         list,
         extreme,
         simplices,
+        told: _,
     } = elements;
     let lists = match element_lists(alloc, system, list) {
         Ok(lists) => lists,
         Err(refusal) => return Err(refusal),
     };
-    let asked = match answer_asked(alloc, system, &lists) {
-        Ok(asked) => asked,
+    let shown = match wide_shown(alloc, system, &extreme, &lists.hilbert) {
+        Ok(shown) => shown,
         Err(refusal) => return Err(unreckoned(refusal)),
     };
-    let shown = match shown_of(alloc, system, &extreme, &lists.hilbert) {
-        Ok(shown) => shown,
+    let (lists, extreme) = match widen_lists(alloc, &lists, &extreme) {
+        Ok(wide) => wide,
+        Err(_) => return Err(SolveRefusal::NoMemory),
+    };
+    let asked = match answer_asked(alloc, system, &lists) {
+        Ok(asked) => asked,
         Err(refusal) => return Err(unreckoned(refusal)),
     };
     Ok(Outcome {
@@ -65,6 +71,22 @@ pub(crate) fn outcome(
     })
 }
 
+// The lists and the extreme generators at the greatest width.
+fn widen_lists<T: Scalar>(
+    alloc: Global,
+    lists: &ElementLists<T>,
+    extreme: &Rows<T>,
+) -> Result<(ElementLists<i128>, Rows<i128>), NoMemory>
+    ensures hilbert { IfOk result (λ w. w.0.hilbert ≡ lists.now.hilbert) }
+    ensures modules { IfOk result (λ w. w.0.modules ≡ lists.now.modules) }
+    ensures extreme { IfOk result (λ w. w.1 ≡ extreme.now) }
+{
+    let hilbert = widen_rows(alloc, &lists.hilbert)?;
+    let modules = widen_given(alloc, &lists.modules)?;
+    let extreme = widen_rows(alloc, extreme)?;
+    Ok((ElementLists { hilbert, modules }, extreme))
+}
+
 // The number of entries of a vector of the file: one less than the width where there is a level.
 fn amb_of(width: u32, level: bool) -> u32
     requires { IsTrue level → 1 ≤ width }
@@ -74,7 +96,7 @@ fn amb_of(width: u32, level: bool) -> u32
 }
 
 // Whether the Hilbert basis is wanted: by its goal, or for the asked vectors.
-fn wants_basis(system: &System) -> bool
+fn wants_basis<T: Scalar>(system: &SystemOver<T>) -> bool
     ensures { result ≡ wants_basis system.now }
 {
     if system.goals.hilbert {
@@ -87,7 +109,7 @@ fn wants_basis(system: &System) -> bool
 }
 
 // Whether the module generators are wanted: with a level, by their goal or with the Hilbert basis.
-fn wants_modules(system: &System) -> bool
+fn wants_modules<T: Scalar>(system: &SystemOver<T>) -> bool
     ensures { result ≡ wants_modules system.now }
 {
     if !system.level {
@@ -97,6 +119,44 @@ fn wants_modules(system: &System) -> bool
         return true;
     }
     wants_basis(system)
+}
+
+// What is shown beside the lists of the irreducible elements, at the greatest width.
+fn wide_shown<T: Scalar>(
+    alloc: Global,
+    system: &SystemOver<T>,
+    extreme: &Rows<T>,
+    hilbert: &Rows<T>,
+) -> Result<Shown<i128>, Num>
+    requires extreme { IsTrue (wants_description system.now) → Each (HasWidth system.now.system.width) extreme.now }
+    requires hilbert { Each (HasWidth system.now.system.width) hilbert.now }
+    ensures degree_one { IfOk result (λ s. AreOnes system.now.goals.degree_one system.now.system.grading hilbert.now s.degree_one) }
+    ensures parted { IfOk result (λ s. AreParted system.now.goals.rays system.now.system.level extreme.now s.vertices s.rays) }
+    ensures described { IfOk result (λ s. AreWhere system.now.goals.hyperplanes (IsDescription system.now.system.width extreme.now) s.support s.equations) }
+    ensures cause { IfErr result (λ e. e ≡ Num.Range → IsShownCause T.HALF T.fits system.now extreme.now hilbert.now) }
+{
+    let shown = match shown_of(alloc, system, extreme, hilbert) {
+        Ok(shown) => shown,
+        Err(refusal) => return Err(refusal),
+    };
+    match widen_shown(alloc, &shown) {
+        Ok(shown) => Ok(shown),
+        Err(refusal) => Err(Num::from(refusal)),
+    }
+}
+
+fn widen_shown<T: Scalar>(alloc: Global, shown: &Shown<T>) -> Result<Shown<i128>, NoMemory>
+    ensures degree_one { IfOk result (λ s. s.degree_one ≡ shown.now.degree_one) }
+    ensures parted { IfOk result (λ s. (s.vertices ≡ shown.now.vertices) × (s.rays ≡ shown.now.rays)) }
+    ensures described { IfOk result (λ s. (s.support ≡ shown.now.support) × (s.equations ≡ shown.now.equations)) }
+{
+    Ok(Shown {
+        degree_one: widen_given(alloc, &shown.degree_one)?,
+        vertices: widen_given(alloc, &shown.vertices)?,
+        rays: widen_given(alloc, &shown.rays)?,
+        support: widen_given(alloc, &shown.support)?,
+        equations: widen_given(alloc, &shown.equations)?,
+    })
 }
 
 // What is shown beside the lists of the irreducible elements.
@@ -109,18 +169,18 @@ struct Shown<T: Scalar> {
     equations: Option<Rows<T>>,
 }
 
-fn shown_of(
+fn shown_of<T: Scalar>(
     alloc: Global,
-    system: &System,
-    extreme: &Rows<i128>,
-    hilbert: &Rows<i128>,
-) -> Result<Shown<i128>, Num>
+    system: &SystemOver<T>,
+    extreme: &Rows<T>,
+    hilbert: &Rows<T>,
+) -> Result<Shown<T>, Num>
     requires extreme { IsTrue (wants_description system.now) → Each (HasWidth system.now.system.width) extreme.now }
     requires hilbert { Each (HasWidth system.now.system.width) hilbert.now }
     ensures degree_one { IfOk result (λ s. AreOnes system.now.goals.degree_one system.now.system.grading hilbert.now s.degree_one) }
     ensures parted { IfOk result (λ s. AreParted system.now.goals.rays system.now.system.level extreme.now s.vertices s.rays) }
     ensures described { IfOk result (λ s. AreWhere system.now.goals.hyperplanes (IsDescription system.now.system.width extreme.now) s.support s.equations) }
-    ensures cause { IfErr result (λ e. e ≡ Num.Range → IsShownCause system.now extreme.now hilbert.now) }
+    ensures cause { IfErr result (λ e. e ≡ Num.Range → IsShownCause T.HALF T.fits system.now extreme.now hilbert.now) }
 {
     system.kept();
     let goals = system.goals;

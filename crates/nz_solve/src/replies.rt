@@ -1,5 +1,5 @@
 // The asked vectors of a file, each with its parts or with the first constraint that it breaks.
-ghost use Rattle.std.specs.Prelude.{◌≡◌, ◌^◌, pos, FitsSigned, IfOk, IfErr, IfSome};
+ghost use Rattle.std.specs.Prelude.{◌≡◌, FitsSigned, IfOk, IfErr, IfSome};
 ghost use Rattle.std.specs.Int.{w128};
 ghost use Rattle.std.specs.List.{AllByRecursion as Each, AllZip};
 ghost use Rattle.nz_spec.specs.Systems.{IsMember};
@@ -7,42 +7,66 @@ ghost use Rattle.nz_spec.specs.Monoids.{IsPositive};
 ghost use Rattle.nz_member.specs.Replies.{LacksNumber};
 ghost use Rattle.nz_measures.specs.Reaches.{HasOwnAbove};
 ghost use Rattle.nz_blocks.specs.Outcomes.{at_level, HasText};
+ghost use Rattle.nz_frame.specs.Constraining.{AreAllConstraints};
 ghost use Rattle.nz_solve.specs.Replies.{AreAnswered};
 ghost use Rattle.nz_solve.specs.Parts.{AreElementLists, IsFitting, IsAnswered, LacksReply};
 
 use crate::lists::ElementLists;
+use crate::widening::{widen_constraints, widen_rows};
 use nz_blocks::AskedList;
 use nz_frame::system_constraints;
 use nz_member::{Reply, answer};
-use nz_system::System;
+use nz_system::SystemOver;
 use nz_vec::{Constraints, NoMemory, Num, Row, Rows, Scalar};
 use std::alloc::Global;
 
-/// The asked vectors with their replies, where vectors are asked. With a level they are taken with
-/// level 1.
-pub(crate) fn answer_asked(
+/// The asked vectors with their replies, where vectors are asked, by the lists at the greatest width.
+/// With a level they are taken with level 1.
+pub(crate) fn answer_asked<T: Scalar>(
     alloc: Global,
-    system: &System,
+    system: &SystemOver<T>,
     lists: &ElementLists<i128>,
 ) -> Result<Option<AskedList>, Num>
     requires positive { IsPositive (IsMember system.now.system) }
     requires lists { AreElementLists system.now.system lists.now.hilbert lists.now.modules }
     ensures answered { IfOk result (AreAnswered system.now.system system.now.system.asked) }
     ensures texts { IfOk result (λ list. IfSome list (Each (λ a. HasText system.now.system.level a.0 a.1))) }
-    ensures cause { IfErr result (λ e. e ≡ Num.Range → HasOwnAbove system.now.system (pos (2 ^ 62))) }
+    ensures cause { IfErr result (λ e. e ≡ Num.Range → HasOwnAbove system.now.system T.HALF) }
 {
     system.kept();
-    let vectors = match &system.asked {
-        Some(vectors) => vectors,
+    let asked = match &system.asked {
+        Some(asked) => asked,
         None => return Ok(None),
     };
+    let constraints = match wide_constraints(alloc, system) {
+        Ok(constraints) => constraints,
+        Err(refusal) => return Err(refusal),
+    };
+    let vectors = match widen_rows(alloc, asked) {
+        Ok(vectors) => vectors,
+        Err(refusal) => return Err(Num::from(refusal)),
+    };
+    match answer_all(alloc, system.level, &constraints, &vectors, lists) {
+        Ok(list) => Ok(Some(list)),
+        Err(refusal) => Err(refusal),
+    }
+}
+
+// The constraints of the system, at the greatest width.
+fn wide_constraints<T: Scalar>(
+    alloc: Global,
+    system: &SystemOver<T>,
+) -> Result<Constraints<i128>, Num>
+    ensures all { IfOk result (AreAllConstraints system.now.system) }
+    ensures cause { IfErr result (λ e. e ≡ Num.Range → HasOwnAbove system.now.system T.HALF) }
+{
     let constraints = match system_constraints(alloc, system) {
         Ok(constraints) => constraints,
         Err(refusal) => return Err(refusal),
     };
-    match answer_all(alloc, system.level, &constraints, vectors, lists) {
-        Ok(list) => Ok(Some(list)),
-        Err(refusal) => Err(refusal),
+    match widen_constraints(alloc, &constraints) {
+        Ok(constraints) => Ok(constraints),
+        Err(refusal) => Err(Num::from(refusal)),
     }
 }
 
