@@ -1,10 +1,7 @@
 -- How the steps of a run compose.
-use Rattle.std.proofs.Common.{◌≡◌, ◌⊎◌, ℕ, inl, inr, List, [], ◌++◌, length, refl, sym, ap, ◌∙◌, subst, arith, Option, Some, None, Bool, true, false}
-use Rattle.std.specs.Prelude.{IsFalse}
-use Rattle.std.proofs.lemmas.List.{take_all}
+use Rattle.std.proofs.Common.{◌≡◌, ◌⊎◌, ℕ, inl, inr, List, [], refl, sym, ◌∙◌, subst, Option, Some, None, false}
 use Rattle.nz_vec.specs.Texts.{Text}
 use Rattle.nz_edge.specs.Folders.{Files, BothTold, SameFiles, SameOthers, Stores}
-use Rattle.nz_watch.specs.Counts.{Rose, IsQuiet}
 use Rattle.nz_watch.specs.Watching.{Pair}
 use Rattle.nz_watch.specs.Telling.{Watched, HasPassedAll}
 use Rattle.nz_watch.proofs.TellingLemmas.{none_told}
@@ -13,15 +10,17 @@ use Rattle.nz_system.specs.Meaning.{system_of, meaning}
 use Rattle.nz_input.specs.declared.kind.Mode.{Mode}
 use Rattle.nz_input.specs.declared.kind.Mode.TheVariants.{Primal, Dual}
 use Rattle.nz_solve.specs.Solutions.{IsCrowd, WasToldSome}
-use Rattle.nz_edge.specs.Answers.{OnTold, LoadGives, StoreLeaves, PutAll}
+use Rattle.nz_edge.specs.Answers.{OnTold, LoadGives, StoreLeaves}
 use Rattle.nz_edge.specs.declared.folder.Load.TheVariants as load
 use Rattle.nz_edge.specs.declared.folder.Stored.TheVariants as stored
 use Rattle.nz_run.specs.declared.status.Status.{Status}
 use Rattle.nz_run.specs.declared.status.Status.TheVariants.{Done, Usage, Absent, ReadFault, TooLong, Grammar, Meaning, Line, Grade, Range, TooMany, Stopped, WriteFault, NoMemory}
 use Rattle.nz_input.specs.declared.kind.Goal.{Goal}
-use Rattle.nz_words.specs.Orders.{OrderData, IsOrder, input_name}
-use Rattle.nz_run.specs.Statuses.{status_line}
-use Rattle.nz_run.specs.Runs.{output_name, IsInput, IsSolved, IsCause, IsReadCause, WasToldNothing, WasToldPairs, WatchSays, Leaves, ExplainsFor, Explains, CountRose, StoreCount, PutsLine}
+use Rattle.nz_words.specs.Orders.{OrderData, IsOrder, IsSide, input_name}
+use Rattle.nz_words.proofs.Unique.{order_one}
+use Rattle.nz_run.specs.Runs.{output_name, IsInput, IsSolved, IsCause, IsReadCause, WasToldNothing, WasToldPairs, WatchSays, Leaves, ExplainsFor, ExplainsOrder, Explains, CountRose, StoreCount, IsUnasked, AreUnasked, IsSideOf}
+use Rattle.nz_input.specs.Canonical.{canonical}
+use Rattle.nz_make.specs.Squares.{made_file}
 
 pub told_weaker : {A : Type 0} (o n : Option A) (P Q : A → A → Type 0) → BothTold o n P → ((a b : A) → P a b → Q a b) → BothTold o n Q
 told_weaker None None P Q h w = tt
@@ -41,45 +40,54 @@ others_trans : (name : Text) (a b c : Files) → SameFiles a b → SameOthers na
 others_trans name a b c h k = λ other ne. k other ne ∙ h other
 
 -- memory ran out after the input was loaded
-memory_for : (project : Text) (goals : List Goal) (limit : ℕ) (w w' : Watched) (input : Text) (a : Files) → IsInput project a input → IsCause goals limit w w' input NoMemory → WasToldNothing w w' ⊎ ((input : Text) × IsInput project a input × IsReadCause goals limit w w' input NoMemory)
-memory_for project goals limit w w' input a i h = elim h [ inl n ↦ inl n | inr k ↦ inr (input, i, k) ]
+memory_for : (side : Option ℕ) (project : Text) (goals : List Goal) (limit : ℕ) (w w' : Watched) (input : Text) (a : Files) → IsInput side project a input → IsCause goals limit w w' input NoMemory → WasToldNothing w w' ⊎ ((input : Text) × IsInput side project a input × IsReadCause goals limit w w' input NoMemory)
+memory_for side project goals limit w w' input a i h = elim h [ inl n ↦ inl n | inr k ↦ inr (input, i, k) ]
 
-explains : (project : Text) (goals : List Goal) (limit : ℕ) (w w' : Watched) (input : Text) (f f' : ℕ) (r : Status) (a b c : Files) → SameFiles a b → IsInput project a input → Leaves goals limit w w' (output_name project) input r b c → ExplainsFor project goals limit w w' f f' r a c
-explains project goals limit w w' input f f' Done a b c h i s = (input, i, (s.0, s.1, record { stored = s.2.stored; others = others_trans (output_name project) a b c h s.2.others }))
-explains project goals limit w w' input f f' Usage a b c h i s = s.0
-explains project goals limit w w' input f f' Absent a b c h i s = absurd s.0
-explains project goals limit w w' input f f' ReadFault a b c h i s = absurd s.0
-explains project goals limit w w' input f f' TooLong a b c h i s = (input, i, (s.0, same_trans a b c h s.1))
-explains project goals limit w w' input f f' (Grammar l k g) a b c h i s = (input, i, (s.0, same_trans a b c h s.1))
-explains project goals limit w w' input f f' (Meaning l k g) a b c h i s = (input, i, (s.0, same_trans a b c h s.1))
-explains project goals limit w w' input f f' (Line v) a b c h i s = (input, i, (s.0, same_trans a b c h s.1))
-explains project goals limit w w' input f f' (Grade v) a b c h i s = (input, i, (s.0, same_trans a b c h s.1))
-explains project goals limit w w' input f f' Range a b c h i s = (input, i, (s.0, same_trans a b c h s.1))
-explains project goals limit w w' input f f' TooMany a b c h i s = (input, i, (s.0, same_trans a b c h s.1))
-explains project goals limit w w' input f f' (Stopped k) a b c h i s = (input, i, (s.0, same_trans a b c h s.1))
-explains project goals limit w w' input f f' WriteFault a b c h i s = (input, i, (s.0, s.1, others_trans (output_name project) a b c h s.2))
-explains project goals limit w w' input f f' NoMemory a b c h i s = (same_trans a b c h s.1, memory_for project goals limit w w' input a i s.0)
+explains : (side : Option ℕ) (project : Text) (goals : List Goal) (limit : ℕ) (w w' : Watched) (input : Text) (f f' : ℕ) (r : Status) (a b c : Files) → SameFiles a b → IsInput side project a input → Leaves goals limit w w' (output_name project) input r b c → ExplainsFor side project goals limit w w' f f' r a c
+explains side project goals limit w w' input f f' Done a b c h i s = (input, i, (s.0, s.1, record { stored = s.2.stored; others = others_trans (output_name project) a b c h s.2.others }))
+explains side project goals limit w w' input f f' Usage a b c h i s = s.0
+explains side project goals limit w w' input f f' Absent a b c h i s = absurd s.0
+explains side project goals limit w w' input f f' ReadFault a b c h i s = absurd s.0
+explains side project goals limit w w' input f f' TooLong a b c h i s = (input, i, (s.0, same_trans a b c h s.1))
+explains side project goals limit w w' input f f' (Grammar l k g) a b c h i s = (input, i, (s.0, same_trans a b c h s.1))
+explains side project goals limit w w' input f f' (Meaning l k g) a b c h i s = (input, i, (s.0, same_trans a b c h s.1))
+explains side project goals limit w w' input f f' (Line v) a b c h i s = (input, i, (s.0, same_trans a b c h s.1))
+explains side project goals limit w w' input f f' (Grade v) a b c h i s = (input, i, (s.0, same_trans a b c h s.1))
+explains side project goals limit w w' input f f' Range a b c h i s = (input, i, (s.0, same_trans a b c h s.1))
+explains side project goals limit w w' input f f' TooMany a b c h i s = (input, i, (s.0, same_trans a b c h s.1))
+explains side project goals limit w w' input f f' (Stopped k) a b c h i s = (input, i, (s.0, same_trans a b c h s.1))
+explains side project goals limit w w' input f f' WriteFault a b c h i s = (input, i, (s.0, s.1, others_trans (output_name project) a b c h s.2))
+explains side project goals limit w w' input f f' NoMemory a b c h i s = (same_trans a b c h s.1, memory_for side project goals limit w w' input a i s.0)
 
 -- what was loaded, then solved and stored
-pub loaded_and_stored : (project : Text) (goals : List Goal) (limit : ℕ) (w w' : Watched) (input in_name out_name : Text) (f f' : ℕ) (r : Status) (o m n : Option Files) → in_name ≡ input_name project → out_name ≡ output_name project → BothTold o m SameFiles → OnTold o (λ files. LoadGives files in_name 16777216 f f' (load.Bytes input)) → BothTold m n (Leaves goals limit w w' out_name input r) → BothTold o n (ExplainsFor project goals limit w w' f f' r)
+pub loaded_and_stored : (project : Text) (goals : List Goal) (limit : ℕ) (w w' : Watched) (input in_name out_name : Text) (f f' : ℕ) (r : Status) (o m n : Option Files) → in_name ≡ input_name project → out_name ≡ output_name project → BothTold o m SameFiles → OnTold o (λ files. LoadGives files in_name 16777216 f f' (load.Bytes input)) → BothTold m n (Leaves goals limit w w' out_name input r) → BothTold o n (ExplainsFor None project goals limit w w' f f' r)
 loaded_and_stored project goals limit w w' input in_name out_name f f' r None None None p q h g s = tt
 loaded_and_stored project goals limit w w' input in_name out_name f f' r None None (Some c) p q h g s = s
 loaded_and_stored project goals limit w w' input in_name out_name f f' r None (Some b) n p q h g s = absurd h
 loaded_and_stored project goals limit w w' input in_name out_name f f' r (Some a) None n p q h g s = absurd h
 loaded_and_stored project goals limit w w' input in_name out_name f f' r (Some a) (Some b) None p q h g s = s
 loaded_and_stored project goals limit w w' input in_name out_name f f' r (Some a) (Some b) (Some c) p q h g s =
-    explains project goals limit w w' input f f' r a b c h (record { whole = g.0; there = subst (λ (t : Text). a t ≡ Some g.0) p g.1; cut = g.2 }) (subst (λ (t : Text). Leaves goals limit w w' t input r b c) q s)
+    explains None project goals limit w w' input f f' r a b c h (record { whole = g.0; there = subst (λ (t : Text). a t ≡ Some g.0) p g.1; cut = g.2 }) (subst (λ (t : Text). Leaves goals limit w w' t input r b c) q s)
 
 -- what was not loaded
-pub loaded_absent : (project : Text) (goals : List Goal) (limit : ℕ) (w : Watched) (in_name : Text) (f f' : ℕ) (o m : Option Files) → in_name ≡ input_name project → BothTold o m SameFiles → OnTold o (λ files. LoadGives files in_name 16777216 f f' load.Absent) → BothTold o m (ExplainsFor project goals limit w w f f' Absent)
+pub loaded_absent : (project : Text) (goals : List Goal) (limit : ℕ) (w : Watched) (in_name : Text) (f f' : ℕ) (o m : Option Files) → in_name ≡ input_name project → BothTold o m SameFiles → OnTold o (λ files. LoadGives files in_name 16777216 f f' load.Absent) → BothTold o m (ExplainsFor None project goals limit w w f f' Absent)
 loaded_absent project goals limit w in_name f f' None None p h g = tt
 loaded_absent project goals limit w in_name f f' None (Some b) p h g = h
 loaded_absent project goals limit w in_name f f' (Some a) None p h g = h
-loaded_absent project goals limit w in_name f f' (Some a) (Some b) p h g = (λ q. subst (λ (t : Text). a t ≡ None) p (g q), h)
+loaded_absent project goals limit w in_name f f' (Some a) (Some b) p h g = (refl, (λ q. subst (λ (t : Text). a t ≡ None) p (g q)), h)
+
+pub loaded_not : (project : Text) (goals : List Goal) (limit : ℕ) (w : Watched) (f f' : ℕ) (o m : Option Files) → BothTold o m SameFiles → BothTold o m (ExplainsFor None project goals limit w w f f' ReadFault)
+loaded_not project goals limit w f f' o m h = told_weaker o m SameFiles (ExplainsFor None project goals limit w w f f' ReadFault) h (λ a b s. (refl, s))
+
+-- what was made, then solved and stored
+pub made_and_stored : (n : ℕ) (project : Text) (goals : List Goal) (limit : ℕ) (w w' : Watched) (input out_name : Text) (f f' : ℕ) (r : Status) (o m : Option Files) → input ≡ canonical (made_file n) → out_name ≡ output_name project → BothTold o m (Leaves goals limit w w' out_name input r) → BothTold o m (ExplainsFor (Some n) project goals limit w w' f f' r)
+made_and_stored n project goals limit w w' input out_name f f' r o m e q h =
+    told_weaker o m (Leaves goals limit w w' out_name input r) (ExplainsFor (Some n) project goals limit w w' f f' r) h
+    (λ a b k. explains (Some n) project goals limit w w' input f f' r a a b (λ name. refl) e (subst (λ (t : Text). Leaves goals limit w w' t input r a b) q k))
 
 -- memory ran out before the watch was told anything
-pub no_memory_for : (project : Text) (goals : List Goal) (limit : ℕ) (w : Watched) (f f' : ℕ) (o n : Option Files) → BothTold o n SameFiles → BothTold o n (ExplainsFor project goals limit w w f f' NoMemory)
-no_memory_for project goals limit w f f' o n h = told_weaker o n SameFiles (ExplainsFor project goals limit w w f f' NoMemory) h (λ a b s. (s, inl (none_told w)))
+pub no_memory_for : (side : Option ℕ) (project : Text) (goals : List Goal) (limit : ℕ) (w : Watched) (f f' : ℕ) (o n : Option Files) → BothTold o n SameFiles → BothTold o n (ExplainsFor side project goals limit w w f f' NoMemory)
+no_memory_for side project goals limit w f f' o n h = told_weaker o n SameFiles (ExplainsFor side project goals limit w w f f' NoMemory) h (λ a b s. (s, inl (none_told w)))
 
 pub no_memory : (words : List Text) (w : Watched) (f f' : ℕ) (o n : Option Files) → BothTold o n SameFiles → BothTold o n (Explains words w w f f' NoMemory)
 no_memory words w f f' o n h = told_weaker o n SameFiles (Explains words w w f f' NoMemory) h (λ a b s. (s, inl (none_told w)))
@@ -131,12 +139,12 @@ stored_not goals limit w w' name input output bytes o n s h = told_weaker o n (�
 all_pairs : {Stages : List Pair → Type 0} (w w' : Watched) → HasPassedAll Stages 0 w w' → WasToldPairs false w w'
 all_pairs w w' h = (_, h.telling.was_told)
 
-some_pairs : (mode : Mode) (w w' : Watched) (file : FileData) → WasToldSome mode (system_of file) w w' → WasToldPairs false w w'
+some_pairs : (mode : Mode) (w w' : Watched) (file : FileData) → WasToldSome mode (system_of file) 0 w w' → WasToldPairs false w w'
 some_pairs mode w w' file h = elim h [ inl n ↦ ([], n) | inr k ↦ (_, k.1.was_told) ]
 
-crowd_pairs : (mode : Mode) (w w' : Watched) (file : FileData) (limit : ℕ) → IsCrowd mode (system_of file) limit w w' → WasToldPairs false w w'
+crowd_pairs : (mode : Mode) (w w' : Watched) (file : FileData) (limit : ℕ) → IsCrowd mode (system_of file) limit 0 w w' → WasToldPairs false w w'
 crowd_pairs Primal w w' file limit h = all_pairs w w' h.2
-crowd_pairs Dual w w' file limit h = (_, h.2.was_told)
+crowd_pairs Dual w w' file limit h = (_, h.telling.was_told)
 
 pub says_refused : (goals : List Goal) (limit : ℕ) (w w' : Watched) (input : Text) (r : Status) → IsCause goals limit w w' input r → WatchSays r w w'
 says_refused goals limit w w' input Done h = absurd h
@@ -195,10 +203,10 @@ count_of_store NoMemory f f' m m' s s' t t' d e h = tt
 pub store_not_usage : (r : Status) (a b : ℕ) → StoreCount r a b → r ≡ Usage → ⊥
 store_not_usage r a b h e = (let k = subst (λ (s : Status). StoreCount s a b) e h in k)
 
-pub explains_words : (words : List Text) (order : OrderData) (project : Text) (w w' : Watched) (f f' : ℕ) (r : Status) (o n : Option Files) → IsOrder words order → project ≡ order.project → (r ≡ Usage → ⊥) → BothTold o n (ExplainsFor project order.goals order.limit w w' f f' r) → BothTold o n (Explains words w w' f f' r)
-explains_words words order project w w' f f' r o n d e u h = told_weaker o n (ExplainsFor project order.goals order.limit w w' f f' r) (Explains words w w' f f' r) h (λ a b k. go r u a b (subst (λ (p : Text). ExplainsFor p order.goals order.limit w w' f f' r a b) e k))
+pub explains_words : (words : List Text) (order : OrderData) (w w' : Watched) (f f' : ℕ) (r : Status) (o n : Option Files) → IsOrder words order → (r ≡ Usage → ⊥) → BothTold o n (ExplainsOrder order w w' f f' r) → BothTold o n (Explains words w w' f f' r)
+explains_words words order w w' f f' r o n d u h = told_weaker o n (ExplainsOrder order w w' f f' r) (Explains words w w' f f' r) h (go r u)
   where
-    go : (r : Status) → (r ≡ Usage → ⊥) → (a b : Files) → ExplainsFor order.project order.goals order.limit w w' f f' r a b → Explains words w w' f f' r a b
+    go : (r : Status) → (r ≡ Usage → ⊥) → (a b : Files) → ExplainsOrder order w w' f f' r a b → Explains words w w' f f' r a b
     go Done u a b h = (order, d, h)
     go Usage u a b h = absurd h
     go Absent u a b h = (order, d, h)
@@ -214,13 +222,14 @@ explains_words words order project w w' f f' r o n d e u h = told_weaker o n (Ex
     go WriteFault u a b h = (order, d, h)
     go NoMemory u a b h = (h.0, inr (order, d, h))
 
-rose_loud : (f f' : ℕ) → Rose f f' → IsQuiet f f' → ⊥
-rose_loud f f' (inl l) q = (let s = q.same in omega arith)
-rose_loud f f' (inr e) q = (let b = q.below in omega arith)
+-- what the words order is one thing, so the folder is not asked where a file is made for it
+pub words_unasked : (words : List Text) (order : OrderData) (f f' m m' : ℕ) → IsOrder words order → IsUnasked order.make f f' m m' → AreUnasked words f f' m m'
+words_unasked words order f f' m m' d u other e = subst (λ (o : OrderData). IsUnasked o.make f f' m m') (order_one words order other d e) u
 
-pub puts_line : (r : Bool) (f f' : ℕ) (status : Status) (o n : Option Text) → (IsFalse r → Rose f f') → BothTold o n (λ old new. PutAll old new (status_line status) r) → BothTold o n (PutsLine f f' status)
-puts_line r f f' status o n cause h = told_weaker o n (λ old new. PutAll old new (status_line status) r) (PutsLine f f' status) h (go r cause)
+-- a side that is ordered is one that a file can be made for
+pub side_within : (words : List Text) (order : OrderData) → IsOrder words order → IsSideOf order.make
+side_within words order d = go _ order.make d.order_given.make
   where
-    go : (r : Bool) → (IsFalse r → Rose f f') → (a b : Text) → PutAll a b (status_line status) r → PutsLine f f' status a b
-    go true cause a b p = record { whole = λ q. p; part = (length (status_line status), p ∙ ap (λ (t : Text). a ++ t) (sym (take_all (length (status_line status)) (status_line status) (omega arith)))) }
-    go false cause a b p = record { whole = λ q. absurd (rose_loud f f' (cause refl) q); part = p }
+    go : (text : Option Text) (side : Option ℕ) → IsSide text side → IsSideOf side
+    go None side h = subst IsSideOf (sym h) tt
+    go (Some text) side h = subst IsSideOf (sym h.1) (h.2.not_low, h.2.not_high)

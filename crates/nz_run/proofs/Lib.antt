@@ -1,4 +1,5 @@
 pub mod Composing
 pub mod Pieces
+pub mod Printing
 pub mod Answering
 mod ModeTexts

@@ -12,6 +12,7 @@ use Rattle.std.specs.Prelude.{codes, decimal}
 use Rattle.nz_blocks.specs.Lines.{line}
 use Rattle.nz_spec.specs.Vectors.{Vector}
 use Rattle.nz_run.specs.Statuses.{place_line, behind_spaces}
+use Rattle.nz_run.specs.Summaries.{counted_line}
 
 -- the first piece was taken whole, and then the second, or some first bytes of it
 pub then_more : (a b : Text) (r : Bool) (o m n : Option Text) → BothTold o m (λ old new. PutAll old new a true) → BothTold m n (λ old new. PutAll old new b r) → BothTold o n (λ old new. PutAll old new (a ++ b) r)
@@ -50,6 +51,9 @@ put_same a b r o m e h = subst (λ (t : Text). BothTold o m (λ old new. PutAll 
 
 pub place_text : (first : Text) (m : ℕ) (second : Text) (n : ℕ) (fault : Text) → (first ++ decimal m) ++ ((second ++ decimal n) ++ line (codes ": " ++ fault)) ≡ place_line first m second n fault
 place_text first m second n fault = simp append_assoc
+
+pub counted_text : (n count : ℕ) (sum : Text) → (codes "made " ++ decimal n) ++ ((codes ": " ++ decimal count) ++ line (codes " elements, sum " ++ sum)) ≡ counted_line n count sum
+counted_text n count sum = simp append_assoc
 
 -- ---- entries behind spaces
 

@@ -1,4 +1,5 @@
 pub mod FileSystems
 pub mod Statuses
 pub mod Runs
+pub mod Summaries
 pub mod Laws

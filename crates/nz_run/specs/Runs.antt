@@ -1,5 +1,5 @@
 -- What a run leaves, status by status.
-use Rattle.std.specs.Prelude.{◌≡◌, ◌⊎◌, ℕ, ◌+◌, ◌<◌, ◌≤◌, Bool, true, false, ◌++◌, codes, List, [], length, take, Some, None, Err}
+use Rattle.std.specs.Prelude.{◌≡◌, ◌⊎◌, ℕ, ◌+◌, ◌<◌, ◌≤◌, Bool, true, false, ◌++◌, codes, List, [], length, take, Option, Some, None, Err, IfSome, IsSome}
 use Rattle.nz_vec.specs.Texts.{Text}
 use Rattle.nz_input.specs.Files.{FileData}
 use Rattle.nz_input.specs.declared.kind.Goal.{Goal}
@@ -19,7 +19,8 @@ use Rattle.nz_solve.specs.declared.refusal.SolveRefusal.{SolveRefusal}
 use Rattle.nz_solve.specs.declared.refusal.SolveRefusal.TheVariants as solve
 use Rattle.nz_words.specs.Orders.{OrderData, IsOrder, AreRefused, input_name}
 use Rattle.nz_run.specs.FileSystems.{HasMeaning}
-use Rattle.nz_run.specs.Statuses.{status_line}
+use Rattle.nz_input.specs.Canonical.{canonical}
+use Rattle.nz_make.specs.Squares.{made_file}
 use Rattle.nz_run.specs.declared.status.Status.{Status}
 use Rattle.nz_run.specs.declared.status.Status.TheVariants.{Done, Usage, Absent, ReadFault, TooLong, Grammar, Meaning, Line, Grade, Range, TooMany, Stopped, WriteFault, NoMemory}
 
@@ -31,11 +32,20 @@ output_name project = project ++ codes ".out"
 abbrev pub most : ℕ
 most = 16777216
 
--- the input of a run: what the folder tells of the project's file, cut behind the first byte that is too many
-pub record IsInput (project : Text) (files : Files) (input : Text) : Type 0 where
+-- what the folder tells of the project's file, cut behind the first byte that is too many
+pub record IsLoaded (project : Text) (files : Files) (input : Text) : Type 0 where
   pub whole : Text
   pub there : files (input_name project) ≡ Some whole
   pub cut : input ≡ take (most + 1) whole
+
+-- the input of a run: the canonical text of the file that is made for a side, and else what is loaded
+abbrev pub IsInput : Option ℕ → Text → Files → Text → Type 0
+IsInput None project files input = IsLoaded project files input
+IsInput (Some n) project files input = input ≡ canonical (made_file n)
+
+-- the side is one that a file can be made for
+abbrev pub IsSideOf : Option ℕ → Type 0
+IsSideOf side = IfSome side (λ n. (1 ≤ n) × (n ≤ 150))
 
 -- the bytes of the input are not too many
 abbrev pub IsShort : Text → Type 0
@@ -142,18 +152,30 @@ Leaves goals limit before now name input WriteFault old new = (output : Text) ×
 Leaves goals limit before now name input status old new = IsCause goals limit before now input status × SameFiles old new
 
 -- what the status of a run of the project with these goals says of the files; the counts of faults tell whether reading had one
-abbrev pub ExplainsFor : Text → List Goal → (limit : ℕ) → (before now : Watched) → (faults faults' : ℕ) → Status → Files → Files → Type 0
-ExplainsFor project goals limit before now faults faults' Usage old new = ⊥
-ExplainsFor project goals limit before now faults faults' Absent old new = (IsQuiet faults faults' → old (input_name project) ≡ None) × SameFiles old new
-ExplainsFor project goals limit before now faults faults' ReadFault old new = SameFiles old new
-ExplainsFor project goals limit before now faults faults' NoMemory old new = SameFiles old new × (WasToldNothing before now ⊎ ((input : Text) × IsInput project old input × IsReadCause goals limit before now input NoMemory))
-ExplainsFor project goals limit before now faults faults' status old new = (input : Text) × IsInput project old input × Leaves goals limit before now (output_name project) input status old new
+abbrev pub ExplainsFor : Option ℕ → Text → List Goal → (limit : ℕ) → (before now : Watched) → (faults faults' : ℕ) → Status → Files → Files → Type 0
+ExplainsFor side project goals limit before now faults faults' Usage old new = ⊥
+ExplainsFor side project goals limit before now faults faults' Absent old new = (side ≡ None) × (IsQuiet faults faults' → old (input_name project) ≡ None) × SameFiles old new
+ExplainsFor side project goals limit before now faults faults' ReadFault old new = (side ≡ None) × SameFiles old new
+ExplainsFor side project goals limit before now faults faults' NoMemory old new = SameFiles old new × (WasToldNothing before now ⊎ ((input : Text) × IsInput side project old input × IsReadCause goals limit before now input NoMemory))
+ExplainsFor side project goals limit before now faults faults' status old new = (input : Text) × IsInput side project old input × Leaves goals limit before now (output_name project) input status old new
+
+-- the same for an order: its project, goals and limit, and the side of the file that it has made
+abbrev pub ExplainsOrder : OrderData → (before now : Watched) → (faults faults' : ℕ) → Status → Files → Files → Type 0
+ExplainsOrder order before now faults faults' status old new = ExplainsFor order.make order.project order.goals order.limit before now faults faults' status old new
 
 -- what the status of a run says of the words, the files and the watch
 abbrev pub Explains : List Text → (before now : Watched) → (faults faults' : ℕ) → Status → Files → Files → Type 0
 Explains words before now faults faults' Usage old new = AreRefused words × SameFiles old new
-Explains words before now faults faults' NoMemory old new = SameFiles old new × (WasToldNothing before now ⊎ ((order : OrderData) × IsOrder words order × ExplainsFor order.project order.goals order.limit before now faults faults' NoMemory old new))
-Explains words before now faults faults' status old new = (order : OrderData) × IsOrder words order × ExplainsFor order.project order.goals order.limit before now faults faults' status old new
+Explains words before now faults faults' NoMemory old new = SameFiles old new × (WasToldNothing before now ⊎ ((order : OrderData) × IsOrder words order × ExplainsOrder order before now faults faults' NoMemory old new))
+Explains words before now faults faults' status old new = (order : OrderData) × IsOrder words order × ExplainsOrder order before now faults faults' status old new
+
+-- the folder is not asked for an input, and so counts no fault and no miss, where a file is made in its place
+abbrev pub IsUnasked : Option ℕ → (faults faults' misses misses' : ℕ) → Type 0
+IsUnasked side faults faults' misses misses' = IsSome side → (faults' ≡ faults) × (misses' ≡ misses)
+
+-- the same for what the words order
+abbrev pub AreUnasked : List Text → (faults faults' misses misses' : ℕ) → Type 0
+AreUnasked words faults faults' misses misses' = (order : OrderData) → IsOrder words order → IsUnasked order.make faults faults' misses misses'
 
 -- the status is this one, unless memory ran out
 abbrev pub Decided : Status → Status → Type 0
@@ -173,8 +195,3 @@ StoreCount Absent before now = ⊥
 StoreCount ReadFault before now = ⊥
 StoreCount WriteFault before now = Rose before now
 StoreCount status before now = Unit {0}
-
--- the console grew by the status line, or by some first bytes of it where it had a fault
-pub record PutsLine (faults faults' : ℕ) (status : Status) (before now : Text) : Type 0 where
-  pub whole : IsQuiet faults faults' → now ≡ before ++ status_line status
-  pub part : (n : ℕ) × (now ≡ before ++ take n (status_line status))

@@ -1,7 +1,7 @@
 //! The top call: reads the words and the file, solves it, stores the text and writes the status line.
 //! Its contract: when `run` ends with Done, the stored text has exactly what file and words ask of the monoid or the polyhedron that
 //! the file defines; each other status has its stated cause, and leaves the files as they were; both modes store one text.
-//! Below it stand the words, the grammar, the meaning, the solver, the output text and the outside. The program `nmz` calls it.
+//! Below it stand the words, the grammar, the made files, the meaning, the solver, the output text and the outside. The program `nmz` calls it.
 //! Start with `specs/Runs.antt`, then `run`.
 #![tactic(auto)]
 

@@ -1,4 +1,4 @@
-//! The line of a status, written to the console without memory.
+//! The line of a status and the summary line of a made file, written to the console without memory.
 ghost use Rattle.std.specs.Prelude.{◌≡◌, ◌≤◌, ◌++◌, IsFalse, codes, decimal};
 ghost use Rattle.std.specs.Fmt.{signed_decimal};
 ghost use Rattle.nz_watch.specs.Counts.{Rose};
@@ -6,6 +6,8 @@ ghost use Rattle.nz_edge.specs.Folders.{BothTold};
 ghost use Rattle.nz_edge.specs.Answers.{PutAll};
 ghost use Rattle.nz_blocks.specs.Lines.{line};
 ghost use Rattle.nz_run.specs.Statuses.{fault_name, rule_name, place_line, behind_spaces, entries_line, status_line};
+ghost use Rattle.nz_run.specs.Runs.{IsSideOf};
+ghost use Rattle.nz_run.specs.Summaries.{counted_line, known_line, known_lines};
 
 use crate::Status;
 use itoa::Buffer;
@@ -154,8 +156,8 @@ fn put_place<S: Sink>(
     put_text(console, b": ", fault)
 }
 
-/// Writes the line of the status. False only where the console had a fault; some first bytes of the line were written then.
-pub fn put_status<S: Sink>(console: &mut S, status: &Status) -> bool
+// Writes the line of the status. False only where the console had a fault; some first bytes of the line were written then.
+fn put_status<S: Sink>(console: &mut S, status: &Status) -> bool
     ensures written { BothTold (S.written console.old) (S.written console.new) (λ old new. PutAll old new (status_line status.now) result) }
     ensures cause { IsFalse result → Rose (S.faults console.old) (S.faults console.new) }
     ensures later { S.faults console.old ≤ S.faults console.new }
@@ -193,5 +195,57 @@ pub fn put_status<S: Sink>(console: &mut S, status: &Status) -> bool
         Status::TooMany => put_all(console, b"too many\n"),
         Status::WriteFault => put_all(console, b"write fault\n"),
         Status::NoMemory => put_all(console, b"no memory\n"),
+    }
+}
+
+// The summary line of a made file with so many elements and this sum.
+fn put_counts<S: Sink>(console: &mut S, side: u64, count: u64, sum: u64) -> bool
+    ensures written { BothTold (S.written console.old) (S.written console.new) (λ old new. PutAll old new (counted_line side count (decimal sum)) result) }
+    ensures cause { IsFalse result → Rose (S.faults console.old) (S.faults console.new) }
+    ensures later { S.faults console.old ≤ S.faults console.new }
+{
+    if !put_number(console, b"made ", side) {
+        return false;
+    }
+    if !put_number(console, b": ", count) {
+        return false;
+    }
+    put_number_line(console, b" elements, sum ", sum)
+}
+
+// The summary line of the file that was made for this side: how many elements its Hilbert basis has, and the sum of their entries.
+fn put_summary<S: Sink>(console: &mut S, side: u32) -> bool
+    requires { side ≤ 150 }
+    ensures written { BothTold (S.written console.old) (S.written console.new) (λ old new. PutAll old new (known_line side) result) }
+    ensures cause { IsFalse result → Rose (S.faults console.old) (S.faults console.new) }
+    ensures later { S.faults console.old ≤ S.faults console.new }
+{
+    let points = side + 1;
+    let count = points * points;
+    let sum = points * count;
+    put_counts(console, side as u64, count as u64, sum as u64)
+}
+
+/// Writes the line of the status, and behind Done the summary line, where a file was made for this side. False only where the console
+/// had a fault; some first bytes of the lines were written then.
+pub fn put_lines<S: Sink>(console: &mut S, status: &Status, side: Option<u32>) -> bool
+    requires { IsSideOf side }
+    ensures written { BothTold (S.written console.old) (S.written console.new) (λ old new. PutAll old new (known_lines side status.now) result) }
+    ensures cause { IsFalse result → Rose (S.faults console.old) (S.faults console.new) }
+    ensures later { S.faults console.old ≤ S.faults console.new }
+{
+    let side = match side {
+        Some(side) => side,
+        None => return put_status(console, status),
+    };
+    match status {
+        Status::Done => {
+            if put_status(console, status) {
+                put_summary(console, side)
+            } else {
+                false
+            }
+        }
+        _ => put_status(console, status),
     }
 }

@@ -1,18 +1,22 @@
 //! The top call.
-ghost use Rattle.std.specs.Prelude.{◌≡◌, ◌≤◌, ◌++◌, IfOk, string_bytes};
+ghost use Rattle.std.specs.Prelude.{◌≡◌, ◌≤◌, ◌++◌, None, Some, IfOk, string_bytes};
 ghost use Rattle.nz_edge.specs.Folders.{BothTold};
 ghost use Rattle.nz_words.specs.Parts.{bytes_of_each};
-ghost use Rattle.nz_words.specs.Orders.{AreRefused};
-ghost use Rattle.nz_run.specs.Runs.{Explains, ExplainsFor, Decided, PutsLine, Leaves, CountRose, StoreCount, WatchSays};
+ghost use Rattle.nz_words.specs.Orders.{AreRefused, OrderData, IsOrder};
+ghost use Rattle.nz_input.specs.Canonical.{canonical};
+ghost use Rattle.nz_make.specs.Squares.{made_file};
+ghost use Rattle.nz_run.specs.Runs.{Explains, ExplainsOrder, ExplainsFor, Decided, Leaves, CountRose, StoreCount, WatchSays, IsSideOf, IsUnasked, AreUnasked};
+ghost use Rattle.nz_run.specs.Summaries.{PutsLines};
 
 use crate::Status;
 use crate::solving::{MOST, solved};
-use crate::status_lines::put_status;
+use crate::status_lines::put_lines;
 use nz_edge::{Folder, Load, Sink, Stored};
-use nz_input::Goals;
-use nz_vec::NoMemory;
+use nz_input::{Goals, write};
+use nz_make::{irreducibles_are_points, made};
+use nz_vec::{Bytes, NoMemory};
 use nz_watch::Watch;
-use nz_words::{WordsRefusal, order};
+use nz_words::{RunOrder, WordsRefusal, order};
 use std::alloc::Global;
 
 fn file_name(alloc: Global, project: &str, ending: &str) -> Result<String, NoMemory>
@@ -56,8 +60,8 @@ fn solve_and_store<F: Folder>(
     }
 }
 
-// The run of a project with these goals and this limit of the words, up to its status line.
-fn run_project<F: Folder>(
+// The run of a project with these goals and this limit of the words, whose file is loaded, up to its lines.
+fn run_loaded<F: Folder>(
     alloc: Global,
     project: &str,
     goals: &Goals,
@@ -65,7 +69,7 @@ fn run_project<F: Folder>(
     folder: &mut F,
     watch: &mut Box<dyn Watch>,
 ) -> Status
-    ensures outcome { BothTold (F.files folder.old) (F.files folder.new) (ExplainsFor project.now goals.now limit (seen watch.old) (seen watch.new) (F.faults folder.old) (F.faults folder.new) result) }
+    ensures outcome { BothTold (F.files folder.old) (F.files folder.new) (ExplainsFor None project.now goals.now limit (seen watch.old) (seen watch.new) (F.faults folder.old) (F.faults folder.new) result) }
     ensures watch { WatchSays result (seen watch.old) (seen watch.new) }
     ensures count { CountRose result (F.faults folder.old) (F.faults folder.new) (F.misses folder.old) (F.misses folder.new) (F.store_faults folder.old) (F.store_faults folder.new) }
     ensures not_usage { ¬ (result ≡ Status.Usage) }
@@ -94,21 +98,82 @@ fn run_project<F: Folder>(
     }
 }
 
-// The run, up to its status line.
-fn run_words<F: Folder>(
+// The text of the file that is made for this side.
+fn made_text(alloc: Global, side: u32) -> Result<Bytes, NoMemory>
+    requires low { 1 ≤ side }
+    requires high { side ≤ 150 }
+    ensures { IfOk result (λ text. text ≡ canonical (made_file side)) }
+{
+    let file = match made(alloc, side) {
+        Ok(file) => file,
+        Err(refusal) => return Err(refusal),
+    };
+    write(alloc, &file)
+}
+
+// The run of a project with these goals and this limit of the words, whose file is made, up to its lines. It asks the folder for none.
+fn run_made<F: Folder>(
     alloc: Global,
-    words: &[String],
+    side: u32,
+    project: &str,
+    goals: &Goals,
+    limit: u32,
     folder: &mut F,
     watch: &mut Box<dyn Watch>,
 ) -> Status
-    ensures outcome { BothTold (F.files folder.old) (F.files folder.new) (Explains (bytes_of_each words.now) (seen watch.old) (seen watch.new) (F.faults folder.old) (F.faults folder.new) result) }
+    requires low { 1 ≤ side }
+    requires high { side ≤ 150 }
+    ensures outcome { BothTold (F.files folder.old) (F.files folder.new) (ExplainsFor (Some side) project.now goals.now limit (seen watch.old) (seen watch.new) (F.faults folder.old) (F.faults folder.new) result) }
     ensures watch { WatchSays result (seen watch.old) (seen watch.new) }
-    ensures usage { result ≡ Status.Usage → AreRefused (bytes_of_each words.now) }
-    ensures usage_always { AreRefused (bytes_of_each words.now) → Decided result Status.Usage }
     ensures count { CountRose result (F.faults folder.old) (F.faults folder.new) (F.misses folder.old) (F.misses folder.new) (F.store_faults folder.old) (F.store_faults folder.new) }
+    ensures not_usage { ¬ (result ≡ Status.Usage) }
+    ensures faults { F.faults folder.new ≡ F.faults folder.old }
+    ensures misses { F.misses folder.new ≡ F.misses folder.old }
 {
-    match order(alloc, words) {
-        Ok(order) => run_project(
+    let output_name = match file_name(alloc, project, ".out") {
+        Ok(name) => name,
+        Err(_) => return Status::NoMemory,
+    };
+    let input = match made_text(alloc, side) {
+        Ok(input) => input,
+        Err(_) => return Status::NoMemory,
+    };
+    solve_and_store(
+        alloc,
+        output_name.as_str(),
+        goals,
+        limit,
+        input.as_slice(),
+        folder,
+        watch,
+    )
+}
+
+// The run that is ordered, up to its lines.
+fn run_order<F: Folder>(
+    alloc: Global,
+    order: &RunOrder,
+    folder: &mut F,
+    watch: &mut Box<dyn Watch>,
+) -> Status
+    requires { IsSideOf order.now.make }
+    ensures outcome { BothTold (F.files folder.old) (F.files folder.new) (ExplainsOrder order.now (seen watch.old) (seen watch.new) (F.faults folder.old) (F.faults folder.new) result) }
+    ensures watch { WatchSays result (seen watch.old) (seen watch.new) }
+    ensures count { CountRose result (F.faults folder.old) (F.faults folder.new) (F.misses folder.old) (F.misses folder.new) (F.store_faults folder.old) (F.store_faults folder.new) }
+    ensures not_usage { ¬ (result ≡ Status.Usage) }
+    ensures unasked { IsUnasked order.now.make (F.faults folder.old) (F.faults folder.new) (F.misses folder.old) (F.misses folder.new) }
+{
+    match order.make {
+        Some(side) => run_made(
+            alloc,
+            side,
+            order.project.as_str(),
+            &order.goals,
+            order.limit,
+            folder,
+            watch,
+        ),
+        None => run_loaded(
             alloc,
             order.project.as_str(),
             &order.goals,
@@ -116,12 +181,54 @@ fn run_words<F: Folder>(
             folder,
             watch,
         ),
-        Err(WordsRefusal::Usage) => Status::Usage,
-        Err(WordsRefusal::NoMemory) => Status::NoMemory,
+    }
+}
+
+// How a run ended, and the side of the file that was made for it.
+#[derive(Drop)]
+struct Ended {
+    status: Status,
+    side: Option<u32>,
+}
+
+// The run, up to its lines.
+fn run_words<F: Folder>(
+    alloc: Global,
+    words: &[String],
+    folder: &mut F,
+    watch: &mut Box<dyn Watch>,
+) -> Ended
+    ensures outcome { BothTold (F.files folder.old) (F.files folder.new) (Explains (bytes_of_each words.now) (seen watch.old) (seen watch.new) (F.faults folder.old) (F.faults folder.new) result.status) }
+    ensures watch { WatchSays result.status (seen watch.old) (seen watch.new) }
+    ensures usage { result.status ≡ Status.Usage → AreRefused (bytes_of_each words.now) }
+    ensures usage_always { AreRefused (bytes_of_each words.now) → Decided result.status Status.Usage }
+    ensures count { CountRose result.status (F.faults folder.old) (F.faults folder.new) (F.misses folder.old) (F.misses folder.new) (F.store_faults folder.old) (F.store_faults folder.new) }
+    ensures unasked { AreUnasked (bytes_of_each words.now) (F.faults folder.old) (F.faults folder.new) (F.misses folder.old) (F.misses folder.new) }
+    ensures side { IsSideOf result.side }
+    ensures ordered { result.status ≡ Status.Done → (order : OrderData) × IsOrder (bytes_of_each words.now) order × (order.make ≡ result.side) }
+{
+    match order(alloc, words) {
+        Ok(order) => {
+            let status = run_order(alloc, &order, folder, watch);
+            Ended {
+                status,
+                side: order.make,
+            }
+        }
+        Err(WordsRefusal::Usage) => Ended {
+            status: Status::Usage,
+            side: None,
+        },
+        Err(WordsRefusal::NoMemory) => Ended {
+            status: Status::NoMemory,
+            side: None,
+        },
     }
 }
 
 /// One run of the program: reads `<project>.in`, solves it, stores `<project>.out`, and writes the status line to the console.
+///
+/// Where the words have a file made, that file is taken in the place of `<project>.in`, and behind Done comes its summary line.
 ///
 /// The words are those behind the program's own name. Every file that breaks no rule of meaning is taken, in both modes. The watch is
 /// told the stages of the system's algorithm as they are passed.
@@ -150,10 +257,15 @@ pub fn run<F: Folder, S: Sink>(
     // Stopped comes just where the watch stopped the run, and before the meaning of the file is clear the watch is told nothing.
     ensures watch { WatchSays result (seen watch.old) (seen watch.new) }
 
-    // The console grew by the status line, or after a fault by some first bytes of it.
-    ensures console { BothTold (S.written console.old) (S.written console.new) (PutsLine (S.faults console.old) (S.faults console.new) result) }
+    // Where the words have a file made, the folder is not asked for one.
+    ensures unasked { AreUnasked (bytes_of_each words.now) (F.faults folder.old) (F.faults folder.new) (F.misses folder.old) (F.misses folder.new) }
+
+    // The console grew by the status line, and at Done of a made file by the number of the elements of its Hilbert basis and the sum of
+    // their entries, or after a fault by some first bytes of these.
+    ensures console { BothTold (S.written console.old) (S.written console.new) (PutsLines (bytes_of_each words.now) (S.faults console.old) (S.faults console.new) result) }
 {
-    let status = run_words(alloc, words, folder, watch);
-    let _written = put_status(console, &status);
+    let Ended { status, side } = run_words(alloc, words, folder, watch);
+    irreducibles_are_points();
+    let _written = put_lines(console, &status, side);
     status
 }

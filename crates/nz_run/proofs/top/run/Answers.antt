@@ -1,5 +1,6 @@
-use Rattle.nz_run.proofs.Composing.{puts_line}
+use Rattle.nz_words.specs.Parts.{bytes_of_each}
+use Rattle.nz_run.proofs.Printing.{puts_lines}
 use Rattle.nz_run.proofs.top.run.Goals as goal
 
 pub returns-clause-console : goal.returns-clause-console
-returns-clause-console g c = puts_line c.put_status-written.result _ _ c.run_words-status.result _ _ c.put_status-written.ensures.cause c.put_status-written.ensures.written
+returns-clause-console g c = puts_lines c.irreducibles_are_points.ensures.numbers (bytes_of_each c.args.words.now) c.put_lines-written.result _ _ c.run_words-status.result.status c.run_words-status.result.side _ _ c.run_words-status.ensures.side c.run_words-status.ensures.ordered c.put_lines-written.ensures.cause c.put_lines-written.ensures.written

@@ -4,7 +4,7 @@ use Rattle.nz_edge.specs.Answers.{OnTold, LoadGives}
 use Rattle.nz_edge.specs.declared.folder.Load.TheVariants as load
 use Rattle.nz_watch.proofs.TellingLemmas.{none_told}
 use Rattle.nz_run.proofs.Composing.{loaded_and_stored}
-use Rattle.nz_run.proofs.top.run_project.Goals as goal
+use Rattle.nz_run.proofs.top.run_loaded.Goals as goal
 
 pub returns-in-Err-clause-watch : goal.returns-in-Err-clause-watch
 returns-in-Err-clause-watch g c = ([], none_told _)

@@ -1,0 +1,14 @@
+use Rattle.std.proofs.Common.{[], ◌∙◌}
+use Rattle.nz_watch.proofs.TellingLemmas.{none_told}
+use Rattle.nz_run.proofs.Composing.{made_and_stored}
+use Rattle.nz_run.proofs.top.run_made.Goals as goal
+
+pub returns-in-Err-clause-watch : goal.returns-in-Err-clause-watch
+returns-in-Err-clause-watch g c = ([], none_told _)
+
+pub returns-in-Err-made_text-clause-watch : goal.returns-in-Err-made_text-clause-watch
+returns-in-Err-made_text-clause-watch g c = ([], none_told _)
+
+pub returns-clause-outcome : goal.returns-clause-outcome
+returns-clause-outcome g c =
+    made_and_stored c.args.side c.args.project.now c.args.goals.now c.args.limit _ _ _ _ _ _ c.solve_and_store.result _ _ (c.as_slice.ensures ∙ c.in-Ok-made_text.ensures) (c.as_str.ensures.value ∙ c.in-Ok.ensures) c.solve_and_store.ensures.outcome
