@@ -6,6 +6,8 @@
 #![tactic(auto)]
 
 #[cfg(test)]
+mod make_tests;
+#[cfg(test)]
 mod mode_tests;
 #[cfg(test)]
 mod primal_tests;

@@ -20,6 +20,10 @@ const SHIFTED_TEXT: &[u8] =
 // cone has more points than any limit.
 const LONG: &[u8] = b"amb_space 2\ninequalities 3\n1 0\n0 1\n433494437 -267914296\n";
 
+// The same with greater numbers: their products leave 64 bits at the second stage.
+const LONGER: &[u8] =
+    b"amb_space 2\ninequalities 3\n1 0\n0 1\n679891637638612258 -420196140727489673\n";
+
 const LONG_TEXT: &[u8] =
     b"amb_space 2\nhomogeneous\n\n23 Hilbert basis elements:\n        1         0\n        1         1\n        2         3\n        5         8\n       13        21\n       34        55\n       89       144\n      233       377\n      610       987\n     1597      2584\n     4181      6765\n    10946     17711\n    28657     46368\n    75025    121393\n   196418    317811\n   514229    832040\n  1346269   2178309\n  3524578   5702887\n  9227465  14930352\n 24157817  39088169\n 63245986 102334155\n165580141 267914296\n267914296 433494437\n";
 
@@ -191,6 +195,13 @@ fn stages(rt: HostRuntime) -> Result<(), Fail> {
             None,
             b"done\n".as_slice(),
             " 3 10 4 8 5 8 6 6 7 6 8 5 9 5",
+        ),
+        (
+            "p --DualMode",
+            LONGER,
+            None,
+            b"done\n".as_slice(),
+            " 2 2 3 45",
         ),
         (
             "p --DualMode",

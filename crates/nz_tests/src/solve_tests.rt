@@ -3,7 +3,7 @@ ghost use Rattle.std.specs.Prelude.{IfSome, ◌≤◌};
 
 use nz_blocks::blocks;
 use nz_input::{Goals, read};
-use nz_solve::{SolveRefusal, solve};
+use nz_solve::{InnerRefusal, SolveRefusal, solve, solve_in};
 use nz_system::{System, system_of};
 use nz_vec::Ints;
 use nz_watch::{MemWatch, Watch};
@@ -65,16 +65,73 @@ fn answer(alloc: Global, system: &System, limit: u32, passed: Option<u8>) -> Res
     Ok(text)
 }
 
-fn solved(alloc: Global, text: &str, limit: u32, passed: Option<u8>) -> Result<String, Fail> {
+fn system_for(alloc: Global, text: &str) -> Result<System, Fail> {
     let file = match read(alloc, text.as_bytes()) {
         Ok(file) => file,
         Err(_) => return Err(Fail::from("no file")),
     };
-    let system = match system_of(alloc, &file, &Goals::new(alloc)) {
-        Ok(system) => system,
-        Err(_) => return Err(Fail::from("no system")),
-    };
+    match system_of(alloc, &file, &Goals::new(alloc)) {
+        Ok(system) => Ok(system),
+        Err(_) => Err(Fail::from("no system")),
+    }
+}
+
+fn solved(alloc: Global, text: &str, limit: u32, passed: Option<u8>) -> Result<String, Fail> {
+    let system = system_for(alloc, text)?;
     answer(alloc, &system, limit, passed)
+}
+
+// With 64 bits: the text of the outcome, or the number of Range; and what the watch was told, which was told so many stages before.
+fn narrow(alloc: Global, text: &str, told: u8) -> Result<String, Fail> {
+    let system = system_for(alloc, text)?;
+    let watch = MemWatch::new(alloc, 10, None)?;
+    let mut watch: Box<dyn Watch> = Box::new(alloc, watch)?;
+    let mut text = String::new(alloc);
+    system.kept();
+    match solve_in::<i64>(alloc, &system, 100, told as u64, &mut watch) {
+        Ok(outcome) => {
+            let output = blocks(alloc, &outcome)?;
+            match std::str::from_utf8(output.as_slice()) {
+                Ok(output) => text.push_str(output)?,
+                Err(_) => return Err(Fail::from("no text")),
+            }
+        }
+        Err(InnerRefusal::Range { told }) => write!(text, "range after {told}\n")?,
+        Err(_) => return Err(Fail::from("refused")),
+    }
+    put_told(&mut text, &watch)?;
+    Ok(text)
+}
+
+// With 64 bits, after so many stages.
+#[test]
+fn narrow_files(rt: HostRuntime) -> Result<(), Fail> {
+    for (text, told, expected) in [
+        (
+            "amb_space 2 cone 2 1 3 2 1",
+            0,
+            "amb_space 2\nhomogeneous\n\n4 Hilbert basis elements:\n1 1\n1 2\n1 3\n2 1\ntold: 2 2",
+        ),
+        (
+            "amb_space 2 cone 2 1 3 2 1",
+            1,
+            "amb_space 2\nhomogeneous\n\n4 Hilbert basis elements:\n1 1\n1 2\n1 3\n2 1\ntold:",
+        ),
+        (
+            "amb_space 2 inequalities 3 1 0 0 1 679891637638612258 -420196140727489673 DualMode",
+            0,
+            "range after 1\ntold: 2 2",
+        ),
+        (
+            "amb_space 2 inequalities 3 1 0 0 1 679891637638612258 -420196140727489673 DualMode",
+            1,
+            "range after 1\ntold:",
+        ),
+    ] {
+        let got = narrow(rt.alloc(), text, told)?;
+        assert_eq!(rt; got.as_str(), expected, "of {text}");
+    }
+    Ok(())
 }
 
 #[test]
@@ -140,6 +197,12 @@ fn worked_files(rt: HostRuntime) -> Result<(), Fail> {
             9,
             Some(1),
             "stopped 4\ntold: 3 3 4 4",
+        ),
+        (
+            "amb_space 2 cone 2 1000000007 1 1000000006 1",
+            9,
+            None,
+            "amb_space 2\nhomogeneous\n\n2 Hilbert basis elements:\n1000000006 1\n1000000007 1\ntold: 2 2",
         ),
         (
             "amb_space 3 cone 3 1000000000000000000 1 0 0 1000000000000000000 1 1 0 1000000000000000000",
