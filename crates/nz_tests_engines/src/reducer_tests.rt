@@ -1,5 +1,4 @@
-ghost use Rattle.std.specs.Prelude.{◌≡◌, pos, negsuc, [], ◌∷◌, length, IfOk};
-ghost use Rattle.std.specs.Rc.{rc_slice_items};
+ghost use Rattle.std.specs.Prelude.{◌≡◌, pos, negsuc, [], ◌∷◌, IfOk};
 ghost use Rattle.std.specs.List.{AllByRecursion as Each};
 ghost use Rattle.nz_spec.specs.Vectors.{HasWidth};
 
@@ -7,7 +6,6 @@ use nz_reducer::{DegreeTable, ListTable, Table, irreducibles};
 use nz_vec::{Row, Rows, Scalar};
 use std::alloc::Global;
 use std::process::Abort;
-use std::rc::RcSlice;
 use std::test::Fail;
 
 // The points of the half-open parallelepiped of (1, 3) and (2, 1), and these two; and what is left of them.
@@ -75,7 +73,7 @@ fn reduces<T: Scalar>(rt: &impl Abort, alloc: Global) -> Result<(), Fail> {
     Ok(())
 }
 
-fn list_table<T: Scalar>(alloc: Global) -> Result<ListTable<T>, Fail>
+fn table<T: Scalar>(alloc: Global) -> Result<ListTable<T>, Fail>
     ensures { IfOk result (λ t. t.columns ≡ 2) }
 {
     let mut table = ListTable::new(alloc, 2)?;
@@ -83,6 +81,15 @@ fn list_table<T: Scalar>(alloc: Global) -> Result<ListTable<T>, Fail>
         table.put(&row(alloc, entries[0], entries[1])?)?;
     }
     Ok(table)
+}
+
+fn finds<T: Scalar>(rt: &impl Abort, alloc: Global) -> Result<(), Fail> {
+    let table = table::<T>(alloc)?;
+    for (values, place) in SOUGHT {
+        let values = row::<T>(alloc, values[0], values[1])?;
+        assert!(rt; table.first(&values) == place);
+    }
+    Ok(())
 }
 
 fn degree_table<T: Scalar>(alloc: Global) -> Result<DegreeTable<T>, Fail>
@@ -95,59 +102,12 @@ fn degree_table<T: Scalar>(alloc: Global) -> Result<DegreeTable<T>, Fail>
     Ok(table)
 }
 
-// The slice of two values.
-fn slice<T: Scalar>(alloc: Global, first: i64, second: i64) -> Result<RcSlice<T>, Fail>
-    ensures { IfOk result (λ s. length (rc_slice_items s) ≡ 2) }
-{
-    let values = [T::of_i64(first), T::of_i64(second)];
-    match RcSlice::from_slice(alloc, values.as_slice()) {
-        Ok(slice) => Ok(slice),
-        Err(_) => Err(Fail::from("no memory")),
-    }
-}
-
-fn shared_table<T: Scalar>(alloc: Global) -> Result<DegreeTable<T>, Fail>
-    ensures { IfOk result (λ t. t.columns ≡ 2) }
-{
-    let mut table = DegreeTable::new(alloc, 2)?;
-    for entries in &ENTRIES {
-        table.put_shared(&slice(alloc, entries[0], entries[1])?)?;
-    }
-    Ok(table)
-}
-
-fn finds<T: Scalar>(rt: &impl Abort, alloc: Global) -> Result<(), Fail> {
-    let listed = list_table::<T>(alloc)?;
-    let summed = degree_table::<T>(alloc)?;
-    let shared = shared_table::<T>(alloc)?;
-    assert!(rt; summed.width() == 2 && shared.len() == 3);
+fn finds_by_sums<T: Scalar>(rt: &impl Abort, alloc: Global) -> Result<(), Fail> {
+    let table = degree_table::<T>(alloc)?;
     for (values, place) in SOUGHT {
         let values = row::<T>(alloc, values[0], values[1])?;
-        assert!(rt; listed.first(&values) == place);
-        assert!(rt; summed.first(&values) == place);
-        assert!(rt; shared.first(&values) == place);
+        assert!(rt; table.first(&values) == place);
     }
-    Ok(())
-}
-
-// A thousand entries with the sum 1000.
-fn level_table<T: Scalar>(alloc: Global) -> Result<DegreeTable<T>, Fail>
-    ensures { IfOk result (λ t. t.columns ≡ 2) }
-{
-    let mut table = DegreeTable::new(alloc, 2)?;
-    for i in 1..1001 {
-        table.put(&row(alloc, i, 1000 - i)?)?;
-    }
-    Ok(table)
-}
-
-// No entry with a larger sum than the values is compared.
-fn counts<T: Scalar>(rt: &impl Abort, alloc: Global) -> Result<(), Fail> {
-    let table = level_table::<T>(alloc)?;
-    assert!(rt; table.first_counted(&row(alloc, 1, 1)?) == (None, 0));
-    assert!(rt; table.first_counted(&row(alloc, 0, 1000)?) == (None, 1000));
-    assert!(rt; table.has_below(&row(alloc, 9, 995)?, T::of_i64(1000)));
-    assert!(rt; !table.has_below(&row(alloc, 9, 995)?, T::of_i64(999)));
     Ok(())
 }
 
@@ -173,7 +133,7 @@ fn worked_rows(rt: HostRuntime) -> Result<(), Fail> {
 
 #[test]
 fn tables_by_sums(rt: HostRuntime) -> Result<(), Fail> {
-    counts::<i64>(&rt, rt.alloc())?;
-    counts::<i128>(&rt, rt.alloc())?;
+    finds_by_sums::<i64>(&rt, rt.alloc())?;
+    finds_by_sums::<i128>(&rt, rt.alloc())?;
     finds_without_sum(&rt, rt.alloc())
 }
