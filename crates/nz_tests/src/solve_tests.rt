@@ -96,8 +96,12 @@ fn narrow(alloc: Global, text: &str, told: u8) -> Result<String, Fail> {
                 Err(_) => return Err(Fail::from("no text")),
             }
         }
+        Err(InnerRefusal::Line(line)) => put_vector(&mut text, "line:", &line)?,
+        Err(InnerRefusal::Grade(element)) => put_vector(&mut text, "grade:", &element)?,
         Err(InnerRefusal::Range { told }) => write!(text, "range after {told}\n")?,
-        Err(_) => return Err(Fail::from("refused")),
+        Err(InnerRefusal::TooMany) => text.push_str("too many\n")?,
+        Err(InnerRefusal::Stopped { stage }) => write!(text, "stopped {stage}\n")?,
+        Err(InnerRefusal::NoMemory) => return Err(Fail::from("no memory")),
     }
     put_told(&mut text, &watch)?;
     Ok(text)
@@ -116,6 +120,11 @@ fn narrow_files(rt: HostRuntime) -> Result<(), Fail> {
             "amb_space 2 cone 2 1 3 2 1",
             1,
             "amb_space 2\nhomogeneous\n\n4 Hilbert basis elements:\n1 1\n1 2\n1 3\n2 1\ntold:",
+        ),
+        (
+            "amb_space 2 cone 2 1000000007 1 1000000006 1",
+            0,
+            "amb_space 2\nhomogeneous\n\n2 Hilbert basis elements:\n1000000006 1\n1000000007 1\ntold: 2 2",
         ),
         (
             "amb_space 2 inequalities 3 1 0 0 1 679891637638612258 -420196140727489673 DualMode",
