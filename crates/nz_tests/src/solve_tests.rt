@@ -1,7 +1,7 @@
 //! Systems of files, solved: what the goals ask, what the watch is told, and lines.
 ghost use Rattle.std.specs.Prelude.{IfSome, ◌≤◌};
 
-use nz_blocks::blocks;
+use nz_blocks::{Outcome, blocks};
 use nz_input::{Goals, read};
 use nz_solve::{InnerRefusal, SolveRefusal, solve, solve_in};
 use nz_system::{System, system_of};
@@ -40,6 +40,39 @@ fn put_told(text: &mut String, watch: &Box<dyn Watch>) -> Result<(), Fail> {
     Ok(())
 }
 
+fn put_outcome(alloc: Global, text: &mut String, outcome: &Outcome) -> Result<(), Fail> {
+    let output = blocks(alloc, outcome)?;
+    match std::str::from_utf8(output.as_slice()) {
+        Ok(output) => text.push_str(output)?,
+        Err(_) => return Err(Fail::from("no text")),
+    }
+    Ok(())
+}
+
+fn put_refusal(text: &mut String, refusal: SolveRefusal) -> Result<(), Fail> {
+    match refusal {
+        SolveRefusal::Line(line) => put_vector(text, "line:", &line)?,
+        SolveRefusal::Grade(element) => put_vector(text, "grade:", &element)?,
+        SolveRefusal::Range => text.push_str("range\n")?,
+        SolveRefusal::TooMany => text.push_str("too many\n")?,
+        SolveRefusal::Stopped { stage } => write!(text, "stopped {stage}\n")?,
+        SolveRefusal::NoMemory => return Err(Fail::from("no memory")),
+    }
+    Ok(())
+}
+
+fn put_inner_refusal(text: &mut String, refusal: InnerRefusal) -> Result<(), Fail> {
+    match refusal {
+        InnerRefusal::Line(line) => put_vector(text, "line:", &line)?,
+        InnerRefusal::Grade(element) => put_vector(text, "grade:", &element)?,
+        InnerRefusal::Range { told } => write!(text, "range after {told}\n")?,
+        InnerRefusal::TooMany => text.push_str("too many\n")?,
+        InnerRefusal::Stopped { stage } => write!(text, "stopped {stage}\n")?,
+        InnerRefusal::NoMemory => return Err(Fail::from("no memory")),
+    }
+    Ok(())
+}
+
 // The text of the outcome and what the watch was told, or the refusal.
 fn answer(alloc: Global, system: &System, limit: u32, passed: Option<u8>) -> Result<String, Fail> {
     let watch = MemWatch::new(alloc, 10, stop_at(passed))?;
@@ -47,19 +80,8 @@ fn answer(alloc: Global, system: &System, limit: u32, passed: Option<u8>) -> Res
     let mut text = String::new(alloc);
     system.kept();
     match solve(alloc, system, limit, &mut watch) {
-        Ok(outcome) => {
-            let output = blocks(alloc, &outcome)?;
-            match std::str::from_utf8(output.as_slice()) {
-                Ok(output) => text.push_str(output)?,
-                Err(_) => return Err(Fail::from("no text")),
-            }
-        }
-        Err(SolveRefusal::Line(line)) => put_vector(&mut text, "line:", &line)?,
-        Err(SolveRefusal::Grade(element)) => put_vector(&mut text, "grade:", &element)?,
-        Err(SolveRefusal::Range) => text.push_str("range\n")?,
-        Err(SolveRefusal::TooMany) => text.push_str("too many\n")?,
-        Err(SolveRefusal::Stopped { stage }) => write!(text, "stopped {stage}\n")?,
-        Err(SolveRefusal::NoMemory) => return Err(Fail::from("no memory")),
+        Ok(outcome) => put_outcome(alloc, &mut text, &outcome)?,
+        Err(refusal) => put_refusal(&mut text, refusal)?,
     }
     put_told(&mut text, &watch)?;
     Ok(text)
@@ -89,19 +111,8 @@ fn narrow(alloc: Global, text: &str, told: u8) -> Result<String, Fail> {
     let mut text = String::new(alloc);
     system.kept();
     match solve_in::<i64>(alloc, &system, 100, told as u64, &mut watch) {
-        Ok(outcome) => {
-            let output = blocks(alloc, &outcome)?;
-            match std::str::from_utf8(output.as_slice()) {
-                Ok(output) => text.push_str(output)?,
-                Err(_) => return Err(Fail::from("no text")),
-            }
-        }
-        Err(InnerRefusal::Line(line)) => put_vector(&mut text, "line:", &line)?,
-        Err(InnerRefusal::Grade(element)) => put_vector(&mut text, "grade:", &element)?,
-        Err(InnerRefusal::Range { told }) => write!(text, "range after {told}\n")?,
-        Err(InnerRefusal::TooMany) => text.push_str("too many\n")?,
-        Err(InnerRefusal::Stopped { stage }) => write!(text, "stopped {stage}\n")?,
-        Err(InnerRefusal::NoMemory) => return Err(Fail::from("no memory")),
+        Ok(outcome) => put_outcome(alloc, &mut text, &outcome)?,
+        Err(refusal) => put_inner_refusal(&mut text, refusal)?,
     }
     put_told(&mut text, &watch)?;
     Ok(text)
