@@ -1,3 +1,4 @@
+mod Answered
 pub mod Composing
 pub mod Pieces
 pub mod Printing

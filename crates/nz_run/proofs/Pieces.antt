@@ -11,7 +11,7 @@ use Rattle.nz_edge.specs.Answers.{PutAll}
 use Rattle.std.specs.Prelude.{codes, decimal}
 use Rattle.nz_blocks.specs.Lines.{line}
 use Rattle.nz_spec.specs.Vectors.{Vector}
-use Rattle.nz_run.specs.Statuses.{place_line, behind_spaces}
+use Rattle.nz_run.specs.Statuses.{place_line, after_spaces}
 use Rattle.nz_run.specs.Summaries.{counted_line}
 
 -- the first piece was taken whole, and then the second, or some first bytes of it
@@ -55,31 +55,31 @@ place_text first m second n fault = simp append_assoc
 pub counted_text : (n count : ℕ) (sum : Text) → (codes "made " ++ decimal n) ++ ((codes ": " ++ decimal count) ++ line (codes " elements, sum " ++ sum)) ≡ counted_line n count sum
 counted_text n count sum = simp append_assoc
 
--- ---- entries behind spaces
+-- ---- entries after spaces
 
-one_more : (v : Vector) (k : ℕ) → k < length v → behind_spaces (take (k + 1) v) ≡ behind_spaces (take k v) ++ (codes " " ++ signed_decimal (get_or v k (pos 0)))
+one_more : (v : Vector) (k : ℕ) → k < length v → after_spaces (take (k + 1) v) ≡ after_spaces (take k v) ++ (codes " " ++ signed_decimal (get_or v k (pos 0)))
 one_more v k l =
     let one = λ (z : ℤ). codes " " ++ signed_decimal z in
-    ap (flat_map one) (take_more v k (pos 0) l) ∙ flat_map-append one (take k v) (get_or v k (pos 0) ∷ []) ∙ ap (λ (t : Text). behind_spaces (take k v) ++ t) (append-nil (one (get_or v k (pos 0))))
+    ap (flat_map one) (take_more v k (pos 0) l) ∙ flat_map-append one (take k v) (get_or v k (pos 0) ∷ []) ∙ ap (λ (t : Text). after_spaces (take k v) ++ t) (append-nil (one (get_or v k (pos 0))))
 
-halves : (v : Vector) (k : ℕ) → behind_spaces (take k v) ++ behind_spaces (drop k v) ≡ behind_spaces v
-halves v k = sym (flat_map-append (λ (z : ℤ). codes " " ++ signed_decimal z) (take k v) (drop k v)) ∙ ap behind_spaces (take-append-drop k v)
+halves : (v : Vector) (k : ℕ) → after_spaces (take k v) ++ after_spaces (drop k v) ≡ after_spaces v
+halves v k = sym (flat_map-append (λ (z : ℤ). codes " " ++ signed_decimal z) (take k v) (drop k v)) ∙ ap after_spaces (take-append-drop k v)
 
 -- an entry more was written
-pub entry_more : (v : Vector) (k : ℕ) (z : ℤ) (o m n : Option Text) → k < length v → z ≡ get_or v k (pos 0) → BothTold o m (λ old new. PutAll old new (behind_spaces (take k v)) true) → BothTold m n (λ old new. PutAll old new (codes " " ++ signed_decimal z) true) → BothTold o n (λ old new. PutAll old new (behind_spaces (take (k + 1) v)) true)
+pub entry_more : (v : Vector) (k : ℕ) (z : ℤ) (o m n : Option Text) → k < length v → z ≡ get_or v k (pos 0) → BothTold o m (λ old new. PutAll old new (after_spaces (take k v)) true) → BothTold m n (λ old new. PutAll old new (codes " " ++ signed_decimal z) true) → BothTold o n (λ old new. PutAll old new (after_spaces (take (k + 1) v)) true)
 entry_more v k z o m n l e h i =
-    put_same (behind_spaces (take k v) ++ (codes " " ++ signed_decimal z)) (behind_spaces (take (k + 1) v)) true o n
-    (ap (λ (y : ℤ). behind_spaces (take k v) ++ (codes " " ++ signed_decimal y)) e ∙ sym (one_more v k l))
-    (then_more (behind_spaces (take k v)) (codes " " ++ signed_decimal z) true o m n h i)
+    put_same (after_spaces (take k v) ++ (codes " " ++ signed_decimal z)) (after_spaces (take (k + 1) v)) true o n
+    (ap (λ (y : ℤ). after_spaces (take k v) ++ (codes " " ++ signed_decimal y)) e ∙ sym (one_more v k l))
+    (then_more (after_spaces (take k v)) (codes " " ++ signed_decimal z) true o m n h i)
 
 -- of the next entry some first bytes were written
-pub entry_stopped : (v : Vector) (k : ℕ) (z : ℤ) (o m n : Option Text) → k < length v → z ≡ get_or v k (pos 0) → BothTold o m (λ old new. PutAll old new (behind_spaces (take k v)) true) → BothTold m n (λ old new. PutAll old new (codes " " ++ signed_decimal z) false) → BothTold o n (λ old new. PutAll old new (behind_spaces v) false)
+pub entry_stopped : (v : Vector) (k : ℕ) (z : ℤ) (o m n : Option Text) → k < length v → z ≡ get_or v k (pos 0) → BothTold o m (λ old new. PutAll old new (after_spaces (take k v)) true) → BothTold m n (λ old new. PutAll old new (codes " " ++ signed_decimal z) false) → BothTold o n (λ old new. PutAll old new (after_spaces v) false)
 entry_stopped v k z o m n l e h i =
-    put_same (behind_spaces (take (k + 1) v) ++ behind_spaces (drop (k + 1) v)) (behind_spaces v) false o n (halves v (k + 1))
-    (stopped (behind_spaces (take (k + 1) v)) (behind_spaces (drop (k + 1) v)) o n
-    (put_same (behind_spaces (take k v) ++ (codes " " ++ signed_decimal z)) (behind_spaces (take (k + 1) v)) false o n
-    (ap (λ (y : ℤ). behind_spaces (take k v) ++ (codes " " ++ signed_decimal y)) e ∙ sym (one_more v k l))
-    (then_more (behind_spaces (take k v)) (codes " " ++ signed_decimal z) false o m n h i)))
+    put_same (after_spaces (take (k + 1) v) ++ after_spaces (drop (k + 1) v)) (after_spaces v) false o n (halves v (k + 1))
+    (stopped (after_spaces (take (k + 1) v)) (after_spaces (drop (k + 1) v)) o n
+    (put_same (after_spaces (take k v) ++ (codes " " ++ signed_decimal z)) (after_spaces (take (k + 1) v)) false o n
+    (ap (λ (y : ℤ). after_spaces (take k v) ++ (codes " " ++ signed_decimal y)) e ∙ sym (one_more v k l))
+    (then_more (after_spaces (take k v)) (codes " " ++ signed_decimal z) false o m n h i)))
 
 -- nothing was written
 pub nothing_put : (o : Option Text) → BothTold o o (λ old new. PutAll old new [] true)

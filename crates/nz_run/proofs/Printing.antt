@@ -38,7 +38,7 @@ done_prints law (Some n) h =
     let known = (law n h.0).0 in
     (known.0, known.1.basis, ap (λ (t : Text). status_line Done ++ t) (known_is_counted n known.0 known.1.count known.1.sum))
 
--- behind Done comes the summary
+-- after Done comes the summary
 pub known_done : (side : Option ℕ) (n : ℕ) (status : Status) → side ≡ Some n → status ≡ Done → status_line status ++ known_line n ≡ known_lines side status
 known_done side n status e f = rw (e, f) refl
 

@@ -32,7 +32,7 @@ output_name project = project ++ codes ".out"
 abbrev pub most : ℕ
 most = 16777216
 
--- what the folder tells of the project's file, cut behind the first byte that is too many
+-- what the folder tells of the project's file, cut after the first byte that is too many
 pub record IsLoaded (project : Text) (files : Files) (input : Text) : Type 0 where
   pub whole : Text
   pub there : files (input_name project) ≡ Some whole

@@ -55,13 +55,13 @@ rule_name rule.NoLevel = codes "NoLevel"
 abbrev pub place_line : Text → ℕ → Text → ℕ → Text → Text
 place_line first m second n fault = line (first ++ decimal m ++ second ++ decimal n ++ codes ": " ++ fault)
 
--- each entry behind a space
-abbrev pub behind_spaces : Vector → Text
-behind_spaces v = flat_map (λ z. codes " " ++ signed_decimal z) v
+-- each entry after a space
+abbrev pub after_spaces : Vector → Text
+after_spaces v = flat_map (λ z. codes " " ++ signed_decimal z) v
 
 -- a label and the entries of a vector
 abbrev pub entries_line : Text → Vector → Text
-entries_line label v = line (label ++ behind_spaces v)
+entries_line label v = line (label ++ after_spaces v)
 
 -- the line on the console
 abbrev pub status_line : Status → Text

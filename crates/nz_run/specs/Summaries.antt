@@ -1,4 +1,4 @@
--- What a run writes to the console: the status line, and behind it, where a file was made and the run is done, its summary line.
+-- What a run writes to the console: the status line, and after it, where a file was made and the run is done, its summary line.
 use Rattle.std.specs.Prelude.{◌≡◌, ℕ, ◌+◌, ◌*◌, ◌++◌, List, length, take, Option, Some, None, codes, decimal}
 use Rattle.std.specs.Fmt.{signed_decimal}
 use Rattle.nz_vec.specs.Texts.{Text}

@@ -1,8 +1,10 @@
-//! What all runs of a file have in common.
+//! What all runs of a file have in common, and which runs are answered.
+ghost use Rattle.nz_run.specs.Completeness.{ValidRunsAreAnswered};
 ghost use Rattle.nz_run.specs.Laws.{ModesGiveOneText, RunsGiveOneText};
 
 use nz_input::{texts_have_one_file, texts_keep_limits};
 use nz_solve::modes_agree;
+use nz_words::words_order_one_thing;
 
 /// What answers a file does not depend on the mode: where words ask for the same of it, with no cover, they give one text.
 pub fn modes_give_one_text()
@@ -18,4 +20,14 @@ pub fn runs_give_one_text()
     modes_give_one_text();
     texts_have_one_file();
     texts_keep_limits();
+}
+
+/// What the clauses of `run` say leaves no way out: where the words order something, the input is the text of a file with a
+/// meaning, without a line and without a degree of 0 or less, no number of its run is too large and no list of it is longer
+/// than the limit, and no fault and no stop comes from outside, a run ends with Done, or for want of memory.
+pub fn valid_runs_are_answered()
+    ensures { ValidRunsAreAnswered }
+{
+    words_order_one_thing();
+    texts_have_one_file();
 }

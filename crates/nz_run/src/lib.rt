@@ -11,6 +11,6 @@ mod status;
 mod status_lines;
 mod top;
 
-pub use laws::{modes_give_one_text, runs_give_one_text};
+pub use laws::{modes_give_one_text, runs_give_one_text, valid_runs_are_answered};
 pub use status::Status;
 pub use top::run;

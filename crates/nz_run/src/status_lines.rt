@@ -5,7 +5,7 @@ ghost use Rattle.nz_watch.specs.Counts.{Rose};
 ghost use Rattle.nz_edge.specs.Folders.{BothTold};
 ghost use Rattle.nz_edge.specs.Answers.{PutAll};
 ghost use Rattle.nz_blocks.specs.Lines.{line};
-ghost use Rattle.nz_run.specs.Statuses.{fault_name, rule_name, place_line, behind_spaces, entries_line, status_line};
+ghost use Rattle.nz_run.specs.Statuses.{fault_name, rule_name, place_line, after_spaces, entries_line, status_line};
 ghost use Rattle.nz_run.specs.Runs.{IsSideOf};
 ghost use Rattle.nz_run.specs.Summaries.{counted_line, known_line, known_lines};
 
@@ -82,7 +82,7 @@ fn put_text<S: Sink>(console: &mut S, label: &[u8], text: &[u8]) -> bool
     }
 }
 
-// An entry behind a space.
+// An entry after a space.
 fn put_entry<S: Sink>(console: &mut S, entry: i128) -> bool
     ensures written { BothTold (S.written console.old) (S.written console.new) (λ old new. PutAll old new (codes " " ++ signed_decimal entry) result) }
     ensures cause { IsFalse result → Rose (S.faults console.old) (S.faults console.new) }
@@ -92,9 +92,9 @@ fn put_entry<S: Sink>(console: &mut S, entry: i128) -> bool
     put_two(console, b" ", buffer.format(entry).as_bytes())
 }
 
-// Each entry behind a space.
+// Each entry after a space.
 fn put_entries<S: Sink>(console: &mut S, entries: &Ints) -> bool
-    ensures written { BothTold (S.written console.old) (S.written console.new) (λ old new. PutAll old new (behind_spaces entries.now) result) }
+    ensures written { BothTold (S.written console.old) (S.written console.new) (λ old new. PutAll old new (after_spaces entries.now) result) }
     ensures cause { IsFalse result → Rose (S.faults console.old) (S.faults console.new) }
     ensures later { S.faults console.old ≤ S.faults console.new }
 {
@@ -226,7 +226,7 @@ fn put_summary<S: Sink>(console: &mut S, side: u32) -> bool
     put_counts(console, side as u64, count as u64, sum as u64)
 }
 
-/// Writes the line of the status, and behind Done the summary line, where a file was made for this side. False only where the console
+/// Writes the line of the status, and after Done the summary line, where a file was made for this side. False only where the console
 /// had a fault; some first bytes of the lines were written then.
 pub fn put_lines<S: Sink>(console: &mut S, status: &Status, side: Option<u32>) -> bool
     requires { IsSideOf side }

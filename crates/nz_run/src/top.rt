@@ -228,9 +228,9 @@ fn run_words<F: Folder>(
 
 /// One run of the program: reads `<project>.in`, solves it, stores `<project>.out`, and writes the status line to the console.
 ///
-/// Where the words have a file made, that file is taken in the place of `<project>.in`, and behind Done comes its summary line.
+/// Where the words have a file made, that file is taken in the place of `<project>.in`, and after Done comes its summary line.
 ///
-/// The words are those behind the program's own name. Every file that breaks no rule of meaning is taken, in both modes. The watch is
+/// The words are those after the program's own name. Every file that breaks no rule of meaning is taken, in both modes. The watch is
 /// told the stages of the system's algorithm as they are passed.
 pub fn run<F: Folder, S: Sink>(
     alloc: Global,

@@ -1,0 +1,121 @@
+-- A valid run that nothing disturbs has no status left but Done and NoMemory: every other one has a cause that is not there.
+use Rattle.std.proofs.Common.{◌≡◌, inl, inr, ℕ, ◌+◌, ◌<◌, ◌≤ℤ◌, pos, List, [], length, take, Option, Some, None, refl, sym, ap, ◌∙◌, subst, arith}
+use Rattle.std.proofs.lemmas.Int.{ints}
+use Rattle.std.specs.Prelude.{IfSome}
+use Rattle.nz_vec.specs.Texts.{Text}
+use Rattle.nz_spec.specs.Vectors.{Vector}
+use Rattle.nz_spec.specs.Order.{degree}
+use Rattle.nz_spec.specs.Systems.{System}
+use Rattle.nz_spec.specs.Elements.{IsHilbertElement, IsFirstNotPositive}
+use Rattle.nz_input.specs.Files.{FileData}
+use Rattle.nz_input.specs.Laws.{OneFile}
+use Rattle.nz_input.specs.Refusals.{IsRefusedAt}
+use Rattle.nz_input.specs.declared.kind.Mode.{Mode}
+use Rattle.nz_input.specs.declared.kind.Mode.TheVariants.{Primal, Dual}
+use Rattle.nz_system.specs.Meaning.{meaning}
+use Rattle.nz_system.specs.Rules.{first}
+use Rattle.nz_system.specs.declared.refusal.SystemRefusal.{SystemRefusal}
+use Rattle.nz_frame.specs.Elements.{IsGraded}
+use Rattle.nz_solve.specs.Solutions.{IsCrowd}
+use Rattle.nz_edge.specs.Folders.{Files}
+use Rattle.nz_watch.specs.Counts.{IsQuiet, Rose, last_value}
+use Rattle.nz_watch.specs.Telling.{Watched}
+use Rattle.nz_words.specs.Orders.{OrderData, IsOrder, OrdersOne}
+use Rattle.nz_run.specs.declared.status.Status.{Status}
+use Rattle.nz_run.specs.declared.status.Status.TheVariants.{Done, Usage, Absent, ReadFault, TooLong, Grammar, Meaning, Line, Grade, Range, TooMany, Stopped, WriteFault, NoMemory}
+use Rattle.nz_run.specs.Runs.{most, IsInput, IsLoaded, IsReadCause, IsCauseIn, ExplainsOrder}
+use Rattle.nz_run.specs.Completeness.{IsCrowdAbove, IsValidRun, ValidRunsAreAnswered}
+
+-- what is quiet did not rise
+not_risen : (before now : ℕ) → IsQuiet before now → ¬ Rose before now
+not_risen before now q (inl l) = let e = q.same in omega (arith, e, l)
+not_risen before now q (inr e) = below last_value now e q.below
+  where
+    below : (last n : ℕ) → n ≡ last → n < last → ⊥
+    below last n e l = omega (arith, e, l)
+
+some_once : {a b : Text} → Some a ≡ Some b → a ≡ b
+some_once e = cc
+
+-- an order has one input
+same_input : (side : Option ℕ) (project : Text) (files : Files) (a b : Text) → IsInput side project files a → IsInput side project files b → a ≡ b
+same_input None project files a b p q = p.cut ∙ ap (take (most + 1)) (some_once (sym p.there ∙ q.there)) ∙ sym q.cut
+same_input (Some n) project files a b p q = p ∙ sym q
+
+-- a file without a fault has no first one
+no_fault : {xs : List SystemRefusal} {r : SystemRefusal} → xs ≡ [] → first xs ≡ Some r → ⊥
+no_fault refl e = cc
+
+-- elements of a degree of at least 1 have none of 0 or less
+no_grade : (s : System) (x : Vector) → IsGraded s → ¬ IsFirstNotPositive s x
+no_grade s x graded f =
+    let one = subst (λ (g : Option Vector). IfSome g (λ grading. (x : Vector) → IsHilbertElement s x → pos 1 ≤ℤ degree grading x)) f.given graded x f.first.has in
+    let l = f.not_positive in
+    omega (arith, ints, one, l)
+
+crowd_above : (mode : Mode) (s : System) (limit : ℕ) (before now : Watched) → IsCrowd mode s limit 0 before now → IsCrowdAbove mode s limit
+crowd_above Primal s limit before now k = k.1
+crowd_above Dual s limit before now k = (k.earlier, k.crowd)
+
+module _ (one_order : OrdersOne) (one_file : OneFile) (words : List Text) (old new : Files) (faults faults' : ℕ) (before now : Watched) (v : IsValidRun words old) where
+  -- what is said of what the words order is said of the order at hand
+  explained : (status : Status) (order : OrderData) → IsOrder words order → ExplainsOrder order before now faults faults' status old new → ExplainsOrder v.order before now faults faults' status old new
+  explained status order is e = subst (λ (o : OrderData). ExplainsOrder o before now faults faults' status old new) (one_order words order v.order is v.ordered) e
+
+  -- what is said of an input is said of the input at hand
+  of_input : (P : Text → Type 0) (input : Text) → IsInput v.order.make v.order.project old input → P input → P v.input
+  of_input P input i p = subst P (same_input v.order.make v.order.project old input v.input i v.loaded) p
+
+  -- the file at hand is the cause
+  caused : (status : Status) (input : Text) → IsInput v.order.make v.order.project old input → IsReadCause v.order.goals v.order.limit before now input status → IsCauseIn v.order.goals v.order.limit before now v.valid.file status
+  caused status input i c =
+      let c' = of_input (λ (text : Text). IsReadCause v.order.goals v.order.limit before now text status) input i c in
+      subst (λ (f : FileData). IsCauseIn v.order.goals v.order.limit before now f status) (one_file v.input c'.file v.valid.file c'.read v.valid.read) c'.cause
+
+  -- where an input is loaded it is there
+  not_absent : IsQuiet faults faults' → ¬ ExplainsOrder v.order before now faults faults' Absent old new
+  not_absent q e =
+      let l : IsLoaded v.order.project old v.input = subst (λ (side : Option ℕ). IsInput side v.order.project old v.input) e.0 v.loaded in
+      none_some l.whole (sym (e.1 q) ∙ l.there)
+    where
+      none_some : (t : Text) → ¬ (None ≡ Some t)
+      none_some t k = cc
+
+pub answered : OrdersOne → OneFile → ValidRunsAreAnswered
+answered oo of words old new faults faults' misses misses' stores stores' before now Done v u r = inl refl
+answered oo of words old new faults faults' misses misses' stores stores' before now NoMemory v u r = inr refl
+answered oo of words old new faults faults' misses misses' stores stores' before now Usage v u r = absurd (r.outcome.0 v.order v.ordered)
+answered oo of words old new faults faults' misses misses' stores stores' before now Absent v u r =
+    absurd (not_absent oo of words old new faults faults' before now v u.loads (explained oo of words old new faults faults' before now v Absent r.outcome.0 r.outcome.1 r.outcome.2))
+answered oo of words old new faults faults' misses misses' stores stores' before now ReadFault v u r = absurd (not_risen faults faults' u.loads r.count)
+answered oo of words old new faults faults' misses misses' stores stores' before now WriteFault v u r = absurd (not_risen stores stores' u.keeps r.count)
+answered oo of words old new faults faults' misses misses' stores stores' before now (Stopped k) v u r = absurd (not_risen before.stops now.stops u.goes_on r.watch.1.stops)
+answered oo of words old new faults faults' misses misses' stores stores' before now TooLong v u r =
+    let e = explained oo of words old new faults faults' before now v TooLong r.outcome.0 r.outcome.1 r.outcome.2 in
+    let l = of_input oo of words old new faults faults' before now v (λ (text : Text). most < length text) e.0 e.1 e.2.0.0 in
+    let h = v.valid.short in
+    absurd (omega (arith, l, h))
+answered oo of words old new faults faults' misses misses' stores stores' before now (Grammar l c f) v u r =
+    let e = explained oo of words old new faults faults' before now v (Grammar l c f) r.outcome.0 r.outcome.1 r.outcome.2 in
+    let k = of_input oo of words old new faults faults' before now v (λ (text : Text). IsRefusedAt text l c f) e.0 e.1 e.2.0.1 in
+    absurd (k.no_text v.valid.file v.valid.read)
+answered oo of words old new faults faults' misses misses' stores stores' before now (Meaning i row f) v u r =
+    let e = explained oo of words old new faults faults' before now v (Meaning i row f) r.outcome.0 r.outcome.1 r.outcome.2 in
+    let k = caused oo of words old new faults faults' before now v (Meaning i row f) e.0 e.1 e.2.0 in
+    absurd (no_fault v.valid.ready k.0)
+answered oo of words old new faults faults' misses misses' stores stores' before now (Line x) v u r =
+    let e = explained oo of words old new faults faults' before now v (Line x) r.outcome.0 r.outcome.1 r.outcome.2 in
+    let k = caused oo of words old new faults faults' before now v (Line x) e.0 e.1 e.2.0 in
+    absurd (v.valid.answerable.positive x k.refused.0.line)
+answered oo of words old new faults faults' misses misses' stores stores' before now (Grade x) v u r =
+    let e = explained oo of words old new faults faults' before now v (Grade x) r.outcome.0 r.outcome.1 r.outcome.2 in
+    let k = caused oo of words old new faults faults' before now v (Grade x) e.0 e.1 e.2.0 in
+    absurd (no_grade (meaning v.valid.file v.order.goals).system x v.valid.answerable.graded k.refused.1)
+answered oo of words old new faults faults' misses misses' stores stores' before now Range v u r =
+    let e = explained oo of words old new faults faults' before now v Range r.outcome.0 r.outcome.1 r.outcome.2 in
+    let k = caused oo of words old new faults faults' before now v Range e.0 e.1 e.2.0 in
+    absurd (v.valid.answerable.small k.refused.0)
+answered oo of words old new faults faults' misses misses' stores stores' before now TooMany v u r =
+    let e = explained oo of words old new faults faults' before now v TooMany r.outcome.0 r.outcome.1 r.outcome.2 in
+    let k = caused oo of words old new faults faults' before now v TooMany e.0 e.1 e.2.0 in
+    absurd (v.valid.answerable.few (crowd_above (meaning v.valid.file v.order.goals).mode (meaning v.valid.file v.order.goals).system v.order.limit before now k.refused))

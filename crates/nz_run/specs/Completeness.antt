@@ -1,0 +1,68 @@
+-- Which runs end with Done, unless memory runs out.
+use Rattle.std.specs.Prelude.{ℕ, List}
+use Rattle.nz_vec.specs.Texts.{Text}
+use Rattle.nz_spec.specs.Systems.{System, IsMember}
+use Rattle.nz_spec.specs.Monoids.{IsPositive}
+use Rattle.nz_measures.specs.Crowds.{IsPrimalCrowdAbove}
+use Rattle.nz_input.specs.Files.{FileData}
+use Rattle.nz_input.specs.Texts.{IsTextOf}
+use Rattle.nz_input.specs.declared.kind.Goal.{Goal}
+use Rattle.nz_input.specs.declared.kind.Mode.{Mode}
+use Rattle.nz_input.specs.declared.kind.Mode.TheVariants.{Primal, Dual}
+use Rattle.nz_system.specs.Meaning.{SystemData, meaning}
+use Rattle.nz_frame.specs.Elements.{IsGraded}
+use Rattle.nz_frame.specs.DualCrowds.{IsDualCrowd}
+use Rattle.nz_solve.specs.Solutions.{IsReachAbove, half}
+use Rattle.nz_edge.specs.Folders.{Files}
+use Rattle.nz_watch.specs.Counts.{IsQuiet}
+use Rattle.nz_watch.specs.Telling.{Watched}
+use Rattle.nz_words.specs.Orders.{OrderData, IsOrder}
+use Rattle.nz_run.specs.FileSystems.{HasMeaning}
+use Rattle.nz_run.specs.declared.status.Status.{Status}
+use Rattle.nz_run.specs.declared.status.Status.TheVariants.{Done}
+use Rattle.nz_run.specs.Runs.{IsInput, IsShort, Explains, CountRose, WatchSays, Decided}
+
+-- what the algorithm of the mode has to hold at once is more than n vectors
+abbrev pub IsCrowdAbove : Mode → System → ℕ → Type 0
+IsCrowdAbove Primal s n = IsPrimalCrowdAbove s n
+IsCrowdAbove Dual s n = (passed : ℕ) × IsDualCrowd s n passed
+
+-- there is no line, and no degree of 0 or less; the numbers of the algorithm are small enough for the program's integers, and its lists for the limit
+pub record IsAnswerable (s : SystemData) (limit : ℕ) : Type 0 where
+  pub positive : IsPositive (IsMember s.system)
+  pub graded : IsGraded s.system
+  pub small : ¬ IsReachAbove s.mode s.system half
+  pub few : ¬ IsCrowdAbove s.mode s.system limit
+
+-- the input is a text, not too long, of a file that breaks no rule of meaning, and whose system can be answered
+pub record IsValidInput (goals : List Goal) (limit : ℕ) (input : Text) : Type 0 where
+  pub file : FileData
+  pub short : IsShort input
+  pub read : IsTextOf input file
+  pub ready : HasMeaning file goals
+  pub answerable : IsAnswerable (meaning file goals) limit
+
+-- the words order something, and the input of that is valid
+pub record IsValidRun (words : List Text) (files : Files) : Type 0 where
+  pub order : OrderData
+  pub ordered : IsOrder words order
+  pub input : Text
+  pub loaded : IsInput order.make order.project files input
+  pub valid : IsValidInput order.goals order.limit input
+
+-- the folder counts no fault and no failed store, and the watch no stop
+pub record IsUndisturbed (faults faults' stores stores' : ℕ) (before now : Watched) : Type 0 where
+  pub loads : IsQuiet faults faults'
+  pub keeps : IsQuiet stores stores'
+  pub goes_on : IsQuiet before.stops now.stops
+
+-- what the clauses of `run` on the outcome, the counts and the watch say together of its status
+pub record IsRunStatus (words : List Text) (old new : Files) (faults faults' misses misses' stores stores' : ℕ) (before now : Watched) (status : Status) : Type 0 where
+  pub outcome : Explains words before now faults faults' status old new
+  pub count : CountRose status faults faults' misses misses' stores stores'
+  pub watch : WatchSays status before now
+
+-- a valid run that nothing disturbs ends with Done, unless memory runs out
+abbrev pub ValidRunsAreAnswered : Type 0
+ValidRunsAreAnswered = (words : List Text) (old new : Files) (faults faults' misses misses' stores stores' : ℕ) (before now : Watched) (status : Status)
+    → IsValidRun words old → IsUndisturbed faults faults' stores stores' before now → IsRunStatus words old new faults faults' misses misses' stores stores' before now status → Decided status Done
