@@ -12,7 +12,7 @@ use Rattle.nz_spec.specs.Order.{Pairwise, ListsOnce}
 use Rattle.nz_spec.proofs.ListLaws.{Each-contains, Each-from_contains, contains_at, each_at}
 use Rattle.nz_order.specs.Boxes.{IsBelow}
 use Rattle.nz_reducer.specs.Reducers.{AreSeparated, AreValued, IsUnreduced}
-use Rattle.nz_reducer.specs.Tables.{NoneIsBelow, IsFirstBelow}
+use Rattle.nz_reducer.specs.Tables.{NoneIsBelow, HasAnyBelow}
 use Rattle.nz_reducer.proofs.Reducing.{ComesBefore, IsUnder, Kept, kept_zero, kept_under, kept_more, kept_all}
 use Rattle.nz_reducer.proofs.Places.{in_value_order}
 
@@ -63,8 +63,9 @@ module _ (rows candidates es : List Vector) (s : AreSeparated rows candidates) (
   pub next_zero : IsZero x → Kept rows (take (i + 1) es) kept
   next_zero z = subst (λ (done : List Vector). Kept rows done kept) next (kept_zero rows candidates s (take i es) kept x of_done of_x is z)
 
-  pub next_under : (place : ℕ) → IsFirstBelow (map (values_at rows) kept) (values_at rows x) place → Kept rows (take (i + 1) es) kept
-  next_under place f =
+  pub next_under : HasAnyBelow (map (values_at rows) kept) (values_at rows x) → Kept rows (take (i + 1) es) kept
+  next_under f =
+      let place = f.place in
       let inside : place < length kept = omega (arith, f.inside, length-map kept (values_at rows)) in
       let e = get_or-map (values_at rows) kept place [] [] inside in
       subst (λ (done : List Vector). Kept rows done kept) next (kept_under rows candidates s (take i es) kept x of_done of_x is (get_or kept place []) (contains_at kept place [] inside) (subst (λ (v : Vector). IsBelow v (values_at rows x)) e f.below))
@@ -98,9 +99,9 @@ module _ {T Item : Type 0} (int : T → ℤ) (rows candidates : List Vector) (it
     pub item_zero : IsZero (map int (entries item)) → Kept rows (take (i + 1) (map (λ c. map int (entries c)) items)) kept
     item_zero z = next_zero rows candidates (map (λ c. map int (entries c)) items) s o.order o.from i (map int (entries item)) long place_of kept is z
 
-    pub item_under : (table : List Vector) (v : Vector) (place : ℕ) → table ≡ map (values_at rows) kept → v ≡ map int (values item) → IsFirstBelow table v place → Kept rows (take (i + 1) (map (λ c. map int (entries c)) items)) kept
-    item_under table v place t e f = next_under rows candidates (map (λ c. map int (entries c)) items) s o.order o.from i (map int (entries item)) long place_of kept is place
-        (subst (λ (u : Vector). IsFirstBelow (map (values_at rows) kept) u place) (e ∙ item_values) (subst (λ (ts : List Vector). IsFirstBelow ts v place) t f))
+    pub item_under : (table : List Vector) (v : Vector) → table ≡ map (values_at rows) kept → v ≡ map int (values item) → HasAnyBelow table v → Kept rows (take (i + 1) (map (λ c. map int (entries c)) items)) kept
+    item_under table v t e f = next_under rows candidates (map (λ c. map int (entries c)) items) s o.order o.from i (map int (entries item)) long place_of kept is
+        (subst (λ (u : Vector). HasAnyBelow (map (values_at rows) kept) u) (e ∙ item_values) (subst (λ (ts : List Vector). HasAnyBelow ts v) t f))
 
     pub item_kept : (table : List Vector) (v : Vector) → table ≡ map (values_at rows) kept → v ≡ map int (values item) → IsNonzero (map int (entries item)) → NoneIsBelow table v → Kept rows (take (i + 1) (map (λ c. map int (entries c)) items)) (kept ++ map int (entries item) ∷ [])
     item_kept table v t e n none = next_kept rows candidates (map (λ c. map int (entries c)) items) s o.order o.from i (map int (entries item)) long place_of kept is n

@@ -11,7 +11,7 @@ use Rattle.nz_spec.specs.Order.{Pairwise}
 use Rattle.nz_spec.proofs.ListLaws.{each_at, contains_here, contains_there, different_within, Each-weaker, Each-contains}
 use Rattle.nz_order.proofs.OrderLaws.{Each-push}
 use Rattle.nz_order.specs.Boxes.{IsBelow}
-use Rattle.nz_reducer.specs.Marks.{RisesTo, IsReached, IsReach, IsPosition, IsSearched, HasBelowAmong}
+use Rattle.nz_reducer.specs.Marks.{RisesTo, IsReached, IsReach, IsPosition, IsSearched, NoneOfMarked, HasBelowAmong}
 
 pairwise_at : {A : Type 0} (R : A → A → Type 0) (xs : List A) (i j : ℕ) (d : A) → Pairwise R xs → i < j → j < length xs → R (get_or xs i d) (get_or xs j d)
 pairwise_at R [] i j d p l m = absurd (omega (arith, m))
@@ -223,6 +223,11 @@ module _ (entries : List Vector) (values : Vector) where
 
       pub mark_hit : at_place item < first → IsBelow (get_or entries (at_place item) []) values → IsSearched entries values (take (i + 1) (map at_place marks)) (at_place item) (number + 1)
       mark_hit m b = subst (λ (ks : List ℕ). IsSearched entries values ks (at_place item) (number + 1)) next (searched_hit (take i (map at_place marks)) first number h (at_place item) apart m b)
+
+-- one mark more, whose entry is not at most the values
+pub none_more : {Item : Type 0} (at_place : Item → ℕ) (entries : List Vector) (values : Vector) (marks : List Item) (i : ℕ) (item : Item) → i < length marks → item ≡ get_or marks i item → NoneOfMarked at_place entries values (take i marks) → ¬ IsBelow (get_or entries (at_place item) []) values → NoneOfMarked at_place entries values (take (i + 1) marks)
+none_more at_place entries values marks i item l at h n =
+    subst (NoneOfMarked at_place entries values) (ap (λ m. take i marks ++ m ∷ []) at ∙ sym (take_more marks i item l)) (Each-push (λ m. ¬ IsBelow (get_or entries (at_place m) []) values) (take i marks) item h n)
 
 -- one mark more, where it has no sum or its entry is not at most the values
 pub among_more : {T Item : Type 0} (sum : Item → Option T) (at_place : Item → ℕ) (entries : List Vector) (values : Vector) (marks : List Item) (i : ℕ) (item : Item) → i < length marks → item ≡ get_or marks i item → ¬ HasBelowAmong sum at_place entries values (take i marks) → ((v : T) → sum item ≡ Some v → ¬ IsBelow (get_or entries (at_place item) []) values) → ¬ HasBelowAmong sum at_place entries values (take (i + 1) marks)

@@ -11,8 +11,8 @@ use Rattle.nz_spec.specs.Order.{Pairwise, ListsOnce}
 use Rattle.nz_spec.proofs.ListLaws.{contains_here, contains_there, contains_none, contains_cases, Each-weaker, Each-contains, Each-from_contains}
 use Rattle.nz_order.specs.Boxes.{IsBelow}
 use Rattle.nz_order.proofs.SortLaws.{Each-append, Each-front, Each-back, Pairwise-insert, permuted_once}
-use Rattle.nz_reducer.specs.Tables.{total, HasSum, NoneIsBelow, IsFirstBelow, IsInReach, IsNumberCompared, HasBelow}
-use Rattle.nz_reducer.specs.Marks.{IsSum, RisesTo, IsReached, IsReach, IsPosition, AreMarks, IsSearched, HasBelowAmong}
+use Rattle.nz_reducer.specs.Tables.{total, HasSum, NoneIsBelow, IsFirstBelow, HasAnyBelow, IsInReach, IsNumberCompared, HasBelow}
+use Rattle.nz_reducer.specs.Marks.{IsSum, RisesTo, IsReached, IsReach, IsPosition, AreMarks, IsSearched, IsOneUnder, NoneOfMarked, HasBelowAmong}
 use Rattle.nz_reducer.proofs.Places.{each_from}
 use Rattle.nz_reducer.proofs.MarkLemmas.{each_taken, pairwise_taken}
 use Rattle.nz_reducer.proofs.SumLemmas.{below_total}
@@ -59,6 +59,10 @@ each_image f P (x ∷ xs) h = (h.0, each_image f P xs h.1)
 pub either_way : (b : Bool) (P Q : Type 0) → (P → Q) → (Q → P) → MatchBool b P (¬ P) → MatchBool b Q (¬ Q)
 either_way true P Q f g h = f h
 either_way false P Q f g h = λ q. h (g q)
+
+pub both_ways : (b : Bool) (P Q R S : Type 0) → (P → R) → (Q → S) → MatchBool b P Q → MatchBool b R S
+both_ways true P Q R S f g h = f h
+both_ways false P Q R S f g h = g h
 
 -- the entries are as long as the table is wide
 pub long_entries : {A T : Type 0} (integer : T → ℤ) (items : A → List T) (xs : List A) (w n : ℕ) → Each (HasWidth w) (map (λ e. map integer (items e)) xs) → n ≡ w → Each (λ e. length (items e) ≡ n) xs
@@ -157,6 +161,19 @@ module _ {T : Type 0} (integer : T → ℤ) (fits : ℤ → Type 0) where
         size = h.size;
         answer = h.found l;
       }
+
+    module _ (values : Vector) (s : Option T) (q : IsSum integer fits values s) (n : ℕ) (r : IsReach integer sum marks s n) where
+      pub none_reached : NoneOfMarked place entries values (take n marks) → NoneIsBelow entries values
+      none_reached h = each_from (λ e. ¬ IsBelow e values) entries [] (λ k l b.
+          let t = marked place marks k (a.places.each k l) in
+          elim (halves n marks t.0 t.1) [
+            | inl c ↦ Each-contains (λ m. ¬ IsBelow (get_or entries (place m) []) values) (take n marks) t.0 h c (subst (λ (i : ℕ). IsBelow (get_or entries i []) values) (sym t.2) b)
+            | inr c ↦ (let g = beyond_sums (sum t.0) s (get_or entries k []) values (Each-contains (λ m. ¬ IsReached integer (sum m) s) (drop n marks) t.0 r.beyond c) (sum_at t.0 k t.1 t.2) q in
+                let u = below_total (get_or entries k []) values b in let v = g.1 in absurd (omega (arith, ints, u, v)))
+          ])
+
+      pub any_reached : IsOneUnder place entries values (take n marks) → HasAnyBelow entries values
+      any_reached h = record { place = place h.mark; inside = inside_at h.mark (place h.mark) (contains_whole n marks h.mark h.listed) refl; below = h.below }
 
     module _ (values : Vector) (most : T) (n : ℕ) (r : IsReach integer sum marks (Some most) n) where
       pub below_among : HasBelowAmong sum place entries values (take n marks) → HasBelow fits entries values (integer most)

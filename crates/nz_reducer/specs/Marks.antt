@@ -53,6 +53,16 @@ pub record IsSearched (entries : List Vector) (values : Vector) (tried : List �
   pub found : first < length entries → Contains compared first
   pub all : first ≡ length entries → Each (Contains compared) tried
 
+-- none of the entries with these marks is at most the values
+abbrev pub NoneOfMarked : {Item : Type 0} → (Item → ℕ) → List Vector → Vector → List Item → Type 0
+NoneOfMarked place entries values marks = Each (λ m. ¬ IsBelow (slice_index_or entries (place m) []) values) marks
+
+-- one of the entries with these marks is at most the values
+pub record IsOneUnder {Item : Type 0} (place : Item → ℕ) (entries : List Vector) (values : Vector) (marks : List Item) : Type 0 where
+  pub mark : Item
+  pub listed : Contains marks mark
+  pub below : IsBelow (slice_index_or entries (place mark) []) values
+
 -- one of the entries with these marks has a sum and is at most the values
 pub record HasBelowAmong {T Item : Type 0} (sum : Item → Option T) (place : Item → ℕ) (entries : List Vector) (values : Vector) (marks : List Item) : Type 0 where
   pub mark : Item

@@ -15,6 +15,12 @@ pub record IsFirstBelow (entries : List Vector) (values : Vector) (place : ℕ) 
   pub below : IsBelow (slice_index_or entries place []) values
   pub first : (k : ℕ) → k < place → ¬ IsBelow (slice_index_or entries k []) values
 
+-- an entry is at most these values in every column
+pub record HasAnyBelow (entries : List Vector) (values : Vector) : Type 0 where
+  pub place : ℕ
+  pub inside : place < length entries
+  pub below : IsBelow (slice_index_or entries place []) values
+
 -- what callers see of a table: the number of values in an entry, and what was put
 pub record TableLists : Type 0 where
   pub columns : ℕ

@@ -1,10 +1,10 @@
 //! The table that is searched in the order of the sums of its entries.
 ghost use Rattle.std.specs.Prelude.{◌≡◌, [], ◌∷◌, ◌++◌, length, map, IfOk, OnOk, OnErr, MatchBool, MatchOption};
 ghost use Rattle.std.specs.Rc.{rc_slice_items};
-ghost use Rattle.nz_reducer.specs.Tables.{NoneIsBelow, IsFirstBelow, HasSum, IsNumberCompared, HasBelow};
+ghost use Rattle.nz_reducer.specs.Tables.{NoneIsBelow, IsFirstBelow, HasAnyBelow, HasSum, IsNumberCompared, HasBelow};
 
 use crate::Table;
-use crate::marks::{Mark, is_any_under, position, reach, search};
+use crate::marks::{Mark, is_any_under, is_one_under, position, reach, search};
 use crate::sums::sum_of;
 use nz_vec::{NoMemory, Row, Scalar};
 use std::alloc::Global;
@@ -95,11 +95,23 @@ impl<T: Scalar> DegreeTable<T> {
         }
     }
 
+    /// Whether an entry is at most the values in every column. Unlike `first` this ends at the first
+    /// one that is.
+    pub fn has_any_below(&mut self, values: &Row<T>) -> bool
+        requires { length values.now ≡ self.old.columns }
+        ensures same { self.new ≡ self.old }
+        ensures answer { MatchBool result (HasAnyBelow self.old.rows values.now) (NoneIsBelow self.old.rows values.now) }
+    {
+        let reached = reach(self.marks.as_slice(), sum_of(values));
+        is_one_under(self.entries.as_slice(), &self.marks[..reached], values)
+    }
+
     /// Whether an entry whose sum is a value of the type, and at most the given one, is at most the
     /// values in every column.
-    pub fn has_below(&self, values: &Row<T>, most: T) -> bool
-        requires { length values.now ≡ self.now.columns }
-        ensures { MatchBool result (HasBelow T.fits self.now.rows values.now (T.integer most)) (¬ HasBelow T.fits self.now.rows values.now (T.integer most)) }
+    pub fn has_below(&mut self, values: &Row<T>, most: T) -> bool
+        requires { length values.now ≡ self.old.columns }
+        ensures same { self.new ≡ self.old }
+        ensures answer { MatchBool result (HasBelow T.fits self.old.rows values.now (T.integer most)) (¬ HasBelow T.fits self.old.rows values.now (T.integer most)) }
     {
         let reached = reach(self.marks.as_slice(), Some(most));
         is_any_under(self.entries.as_slice(), &self.marks[..reached], values)

@@ -47,9 +47,8 @@ fn unreduced<T: Scalar>(
             continue;
         }
         let values = Row::of(alloc, &candidate.values)?;
-        match table.first(&values) {
-            Some(_) => continue,
-            None => {}
+        if table.has_any_below(&values) {
+            continue;
         }
         table.put(&values)?;
         let entries = match Vec::from_slice(alloc, &candidate.entries) {

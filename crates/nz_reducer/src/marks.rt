@@ -4,7 +4,7 @@ ghost use Rattle.std.specs.Rc.{rc_slice_items};
 ghost use Rattle.std.specs.List.{AllByRecursion as Each};
 ghost use Rattle.nz_spec.specs.Order.{Pairwise};
 ghost use Rattle.nz_order.specs.Boxes.{IsBelow};
-ghost use Rattle.nz_reducer.specs.Marks.{RisesTo, IsReached, IsPosition, IsReach, IsSearched, HasBelowAmong};
+ghost use Rattle.nz_reducer.specs.Marks.{RisesTo, IsReached, IsPosition, IsReach, IsSearched, IsOneUnder, NoneOfMarked, HasBelowAmong};
 
 use nz_vec::{Row, Scalar};
 use std::rc::RcSlice;
@@ -89,6 +89,25 @@ pub(crate) fn search<T: Scalar>(
         first = place;
     }
     (first, compared)
+}
+
+/// Whether one of the entries of these marks is at most these values.
+pub(crate) fn is_one_under<T: Scalar>(
+    entries: &[RcSlice<T>],
+    marks: &[Mark<T>],
+    values: &Row<T>,
+) -> bool
+    requires wide { Each (λ e. length (rc_slice_items e) ≡ length values.now) entries.now }
+    requires inside { Each (λ m. m.place < length entries.now) marks.now }
+    ensures { MatchBool result (IsOneUnder (λ m. m.place) (map (λ e. map T.integer (rc_slice_items e)) entries.now) values.now marks.now) (NoneOfMarked (λ m. m.place) (map (λ e. map T.integer (rc_slice_items e)) entries.now) values.now marks.now) }
+{
+    for index in 0..marks.len() {
+        let mark = &marks[index];
+        if is_under(entries[mark.place].as_slice(), values) {
+            return true;
+        }
+    }
+    false
 }
 
 /// Whether one of the entries of these marks has a sum and is at most these values.

@@ -20,8 +20,8 @@ is_any_under-requires-clause-inside g c =
     (subst (λ ms. Each (λ m. m.place < length c.self.inside.entries.items) (take c.reach-reached.result ms)) (sym c.deref.ensures.value)
     (taken_within g.T.Scalar.integer g.T.Scalar.fits (λ m. m.sum) (λ m. m.place) (λ e. map g.T.Scalar.integer (rc_slice_items e)) c.self.inside.entries.items c.self.inside.marks.items c.self.invariant.1 c.reach-reached.result))
 
-pub returns : goal.returns
-returns g c =
+pub returns-clause-answer : goal.returns-clause-answer
+returns-clause-answer g c =
     let es = c.self.inside.entries.items in
     let ms = c.self.inside.marks.items in
     let n = c.reach-reached.result in
