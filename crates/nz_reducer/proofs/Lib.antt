@@ -5,3 +5,4 @@ pub mod Generating
 pub mod SumLemmas
 pub mod MarkLemmas
 pub mod TableLemmas
+pub mod LevelLemmas

@@ -2,8 +2,8 @@
 use Rattle.std.proofs.Common.{◌≡◌, ◌≢◌, inl, inr, ℕ, zero, suc, ◌+◌, ◌<◌, ◌≤◌, List, [], ◌∷◌, ◌++◌, length, map, take, drop, get_or, ℤ, ◌≤ℤ◌, ◌<ℤ◌, Contains, refl, sym, ap, ◌∙◌, subst, arith}
 use Rattle.std.proofs.lemmas.Int.{ints, by_lt_z}
 use Rattle.std.proofs.lemmas.Bool.{cases_order}
-use Rattle.std.proofs.lemmas.List.{length-map, take_more, get_or-map, get_or_read}
-use Rattle.std.proofs.lemmas.List.Elements.{Contains-append_left, Contains-push, Contains-push_cases}
+use Rattle.std.proofs.lemmas.List.{length-map, take_more, take_all, get_or-map, get_or_read}
+use Rattle.std.proofs.lemmas.List.Elements.{Contains-append_left, Contains-push}
 use Rattle.std.specs.Prelude.{Option, Some, None}
 use Rattle.std.specs.List.{AllByRecursion as Each}
 use Rattle.nz_spec.specs.Vectors.{Vector}
@@ -11,7 +11,7 @@ use Rattle.nz_spec.specs.Order.{Pairwise}
 use Rattle.nz_spec.proofs.ListLaws.{each_at, contains_here, contains_there, different_within, Each-weaker, Each-contains}
 use Rattle.nz_order.proofs.OrderLaws.{Each-push}
 use Rattle.nz_order.specs.Boxes.{IsBelow}
-use Rattle.nz_reducer.specs.Marks.{RisesTo, IsReached, IsReach, IsPosition, IsSearched, NoneOfMarked, HasBelowAmong}
+use Rattle.nz_reducer.specs.Marks.{RisesTo, IsReached, IsReach, IsPosition, IsSearched, AreWithoutSum, NoneOfMarked}
 
 pairwise_at : {A : Type 0} (R : A → A → Type 0) (xs : List A) (i j : ℕ) (d : A) → Pairwise R xs → i < j → j < length xs → R (get_or xs i d) (get_or xs j d)
 pairwise_at R [] i j d p l m = absurd (omega (arith, m))
@@ -36,6 +36,12 @@ each_taken P zero [] h = tt
 each_taken P zero (x ∷ xs) h = tt
 each_taken P (suc n) [] h = tt
 each_taken P (suc n) (x ∷ xs) h = (h.0, each_taken P n xs h.1)
+
+pub each_dropped : {A : Type 0} (P : A → Type 0) (n : ℕ) (xs : List A) → Each P xs → Each P (drop n xs)
+each_dropped P zero [] h = tt
+each_dropped P zero (x ∷ xs) h = h
+each_dropped P (suc n) [] h = tt
+each_dropped P (suc n) (x ∷ xs) h = each_dropped P n xs h.1
 
 pub pairwise_taken : {A : Type 0} (R : A → A → Type 0) (n : ℕ) (xs : List A) → Pairwise R xs → Pairwise R (take n xs)
 pairwise_taken R zero [] h = tt
@@ -229,13 +235,35 @@ pub none_more : {Item : Type 0} (at_place : Item → ℕ) (entries : List Vector
 none_more at_place entries values marks i item l at h n =
     subst (NoneOfMarked at_place entries values) (ap (λ m. take i marks ++ m ∷ []) at ∙ sym (take_more marks i item l)) (Each-push (λ m. ¬ IsBelow (get_or entries (at_place m) []) values) (take i marks) item h n)
 
--- one mark more, where it has no sum or its entry is not at most the values
-pub among_more : {T Item : Type 0} (sum : Item → Option T) (at_place : Item → ℕ) (entries : List Vector) (values : Vector) (marks : List Item) (i : ℕ) (item : Item) → i < length marks → item ≡ get_or marks i item → ¬ HasBelowAmong sum at_place entries values (take i marks) → ((v : T) → sum item ≡ Some v → ¬ IsBelow (get_or entries (at_place item) []) values) → ¬ HasBelowAmong sum at_place entries values (take (i + 1) marks)
-among_more sum at_place entries values marks i item l at h n b =
-    elim (Contains-push_cases (take i marks) item b.mark (subst (λ (ms : List _). Contains ms b.mark) (take_more marks i item l ∙ ap (λ m. take i marks ++ m ∷ []) (sym at)) b.listed)) [
-      | inl c ↦ h (record { mark = b.mark; listed = c; value = b.value; summed = b.summed; below = b.below })
-      | inr e ↦ n b.value (ap sum e ∙ b.summed) (subst (λ m. IsBelow (get_or entries (at_place m) []) values) (sym e) b.below)
-    ]
-
 pub none_apart : {T : Type 0} (o : Option T) (v : T) → o ≡ None → o ≡ Some v → ⊥
 none_apart o v e f = (let t : None ≡ Some v = sym e ∙ f in cc)
+
+module _ {T Item : Type 0} (integer : T → ℤ) (sum : Item → Option T) (marks : List Item) (order : Pairwise (λ a b. RisesTo integer (sum a) (sum b)) marks) where
+  has_rises : (a b : Option T) → a ≢ None → RisesTo integer a b → b ≢ None
+  has_rises None b n r e = n refl
+  has_rises (Some a) None n r e = r
+  has_rises (Some a) (Some b) n r e = none_apart (Some b) b e refl
+
+  pub first_summed : (i : ℕ) (item : Item) (v : T) → i < length marks → item ≡ get_or marks i item → sum item ≡ Some v → Each (λ m. sum m ≡ None) (take i marks) → AreWithoutSum sum marks i
+  first_summed i item v l at s h =
+      let n : sum item ≢ None = λ e. none_apart (sum item) v e s in
+      record {
+        inside = omega (arith, l);
+        before = h;
+        after = each_behind (λ m. sum m ≢ None) marks i (λ k d u m. elim (cases_order i k) [
+          | inl e ↦ subst (λ (j : ℕ). sum (get_or marks j d) ≢ None) e (subst (λ (x : Item). sum x ≢ None) (get_or_read marks i item l at d) n)
+          | inr (inl b) ↦ has_rises (sum item) (sum (get_or marks k d)) n (subst (λ (x : Item). RisesTo integer (sum x) (sum (get_or marks k d))) (sym (get_or_read marks i item l at d)) (pairwise_at (λ a b. RisesTo integer (sum a) (sum b)) marks i k d order b m))
+          | inr (inr b) ↦ absurd (omega (arith, u, b))
+        ]);
+      }
+
+  pub none_summed : (i : ℕ) → length marks ≤ i → Each (λ m. sum m ≡ None) (take i marks) → AreWithoutSum sum marks (length marks)
+  none_summed i e h = record {
+    inside = omega arith;
+    before = subst (Each (λ m. sum m ≡ None)) (take_all i marks e ∙ sym (take_all (length marks) marks (omega arith))) h;
+    after = each_behind (λ m. sum m ≢ None) marks (length marks) (λ k d u m. absurd (omega (arith, u, m)));
+  }
+
+  -- one mark more without a sum
+  pub summed_more : (i : ℕ) (item : Item) → i < length marks → item ≡ get_or marks i item → sum item ≡ None → Each (λ m. sum m ≡ None) (take i marks) → Each (λ m. sum m ≡ None) (take (i + 1) marks)
+  summed_more i item l at n h = subst (Each (λ m. sum m ≡ None)) (ap (λ m. take i marks ++ m ∷ []) at ∙ sym (take_more marks i item l)) (Each-push (λ m. sum m ≡ None) (take i marks) item h n)

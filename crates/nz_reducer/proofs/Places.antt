@@ -28,11 +28,12 @@ zip_from [] (b ∷ ys) l h = absurd (omega arith)
 zip_from (a ∷ xs) [] l h = absurd (omega arith)
 zip_from (a ∷ xs) (b ∷ ys) l h = (h 0 (omega arith), zip_from xs ys (omega arith) (λ k m. h (suc k) (omega arith)))
 
-pub zip_at : (xs ys : Vector) (k : ℕ) → k < length xs → AllZip ◌≤ℤ◌ xs ys → get_or xs k (pos 0) ≤ℤ get_or ys k (pos 0)
-zip_at [] ys k l h = absurd (omega arith)
-zip_at (a ∷ xs) [] k l h = absurd h
-zip_at (a ∷ xs) (b ∷ ys) zero l h = h.0
-zip_at (a ∷ xs) (b ∷ ys) (suc k) l h = zip_at xs ys k (omega arith) h.1
+pub zip_at : (xs ys : Vector) (k : ℕ) → AllZip ◌≤ℤ◌ xs ys → get_or xs k (pos 0) ≤ℤ get_or ys k (pos 0)
+zip_at [] [] k h = omega (arith, ints)
+zip_at [] (b ∷ ys) k h = absurd h
+zip_at (a ∷ xs) [] k h = absurd h
+zip_at (a ∷ xs) (b ∷ ys) zero h = h.0
+zip_at (a ∷ xs) (b ∷ ys) (suc k) h = zip_at xs ys k h.1
 
 -- the same of a list that is seen as the images
 pub next_row : {A B : Type 0} (f : A → B) (xs : List A) (i : ℕ) (a : A) (done : List B) (b : B) (new : List B) → i < length xs → a ≡ get_or xs i a → done ≡ take i (map f xs) → b ≡ f a → new ≡ done ++ b ∷ [] → new ≡ take (i + 1) (map f xs)

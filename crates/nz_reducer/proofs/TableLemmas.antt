@@ -12,9 +12,9 @@ use Rattle.nz_spec.proofs.ListLaws.{contains_here, contains_there, contains_none
 use Rattle.nz_order.specs.Boxes.{IsBelow}
 use Rattle.nz_order.proofs.SortLaws.{Each-append, Each-front, Each-back, Pairwise-insert, permuted_once}
 use Rattle.nz_reducer.specs.Tables.{total, HasSum, NoneIsBelow, IsFirstBelow, HasAnyBelow, IsInReach, IsNumberCompared, HasBelow}
-use Rattle.nz_reducer.specs.Marks.{IsSum, RisesTo, IsReached, IsReach, IsPosition, AreMarks, IsSearched, IsOneUnder, NoneOfMarked, HasBelowAmong}
+use Rattle.nz_reducer.specs.Marks.{IsSum, RisesTo, IsReached, IsReach, IsPosition, AreMarks, IsSearched, IsOneUnder, AreWithoutSum, NoneOfMarked}
 use Rattle.nz_reducer.proofs.Places.{each_from}
-use Rattle.nz_reducer.proofs.MarkLemmas.{each_taken, pairwise_taken}
+use Rattle.nz_reducer.proofs.MarkLemmas.{each_taken, each_dropped, pairwise_taken, none_apart}
 use Rattle.nz_reducer.proofs.SumLemmas.{below_total}
 
 -- ---- lists
@@ -52,13 +52,15 @@ contains_whole (suc n) (y ∷ xs) x h = elim (contains_cases y (take n xs) x h) 
   | inr c ↦ contains_there y x xs (contains_whole n xs x c)
 ]
 
+contains_behind : {A : Type 0} (n : ℕ) (xs : List A) (x : A) → Contains (drop n xs) x → Contains xs x
+contains_behind zero [] x h = h
+contains_behind zero (y ∷ xs) x h = h
+contains_behind (suc n) [] x h = h
+contains_behind (suc n) (y ∷ xs) x h = contains_there y x xs (contains_behind n xs x h)
+
 each_image : {A B : Type 0} (f : A → B) (P : B → Type 0) (xs : List A) → Each P (map f xs) → Each (λ x. P (f x)) xs
 each_image f P [] h = tt
 each_image f P (x ∷ xs) h = (h.0, each_image f P xs h.1)
-
-pub either_way : (b : Bool) (P Q : Type 0) → (P → Q) → (Q → P) → MatchBool b P (¬ P) → MatchBool b Q (¬ Q)
-either_way true P Q f g h = f h
-either_way false P Q f g h = λ q. h (g q)
 
 pub both_ways : (b : Bool) (P Q R S : Type 0) → (P → R) → (Q → S) → MatchBool b P Q → MatchBool b R S
 both_ways true P Q R S f g h = f h
@@ -80,6 +82,9 @@ module _ {T : Type 0} (integer : T → ℤ) (fits : ℤ → Type 0) where
     pub taken_within : Each (λ m. place m < length es) (take n marks)
     taken_within = each_image place (λ k. k < length es) (take n marks) taken_inside
 
+    pub part_within : (f : ℕ) → Each (λ m. place m < length es) (drop f (take n marks))
+    part_within f = each_dropped (λ m. place m < length es) f (take n marks) taken_within
+
   more_sum : (x y : ℤ) → ¬ (x ≤ℤ y) → y <ℤ x
   more_sum x y n = by_lt_z y x (λ (l : y <ℤ x). l) (λ (l : x ≤ℤ y). absurd (n l))
 
@@ -96,6 +101,10 @@ module _ {T : Type 0} (integer : T → ℤ) (fits : ℤ → Type 0) where
   some_sum : (o : Option T) (xs : Vector) → IsSum integer fits xs o → HasSum fits xs → (v : T) × (o ≡ Some v) × (integer v ≡ total xs)
   some_sum None xs p w = absurd (p w)
   some_sum (Some v) xs p w = (v, refl, p.1)
+
+  small_sum : (o : Option T) (xs : Vector) (most : T) → o ≢ None → IsSum integer fits xs o → IsReached integer o (Some most) → HasSum fits xs × (total xs ≤ℤ integer most)
+  small_sum None xs most n p l = absurd (n refl)
+  small_sum (Some v) xs most n p l = (p.0, (let e = p.1 in omega (arith, ints, e, l)))
 
   module _ {Item : Type 0} (sum : Item → Option T) (place : Item → ℕ) (entries : List Vector) (marks : List Item) (a : AreMarks integer fits sum place entries marks) where
     pub marks_inside : Each (λ m. place m < length entries) marks
@@ -175,28 +184,31 @@ module _ {T : Type 0} (integer : T → ℤ) (fits : ℤ → Type 0) where
       pub any_reached : IsOneUnder place entries values (take n marks) → HasAnyBelow entries values
       any_reached h = record { place = place h.mark; inside = inside_at h.mark (place h.mark) (contains_whole n marks h.mark h.listed) refl; below = h.below }
 
-    module _ (values : Vector) (most : T) (n : ℕ) (r : IsReach integer sum marks (Some most) n) where
-      pub below_among : HasBelowAmong sum place entries values (take n marks) → HasBelow fits entries values (integer most)
-      below_among b =
-          let d = contains_whole n marks b.mark b.listed in
-          let p = subst (IsSum integer fits (get_or entries (place b.mark) [])) b.summed (sum_at b.mark (place b.mark) d refl) in
-          let l = subst (λ (o : Option T). IsReached integer o (Some most)) b.summed (Each-contains (λ m. IsReached integer (sum m) (Some most)) (take n marks) b.mark r.reached b.listed) in
+    module _ (values : Vector) (most : T) (n : ℕ) (r : IsReach integer sum marks (Some most) n) (f : ℕ) (w : AreWithoutSum sum (take n marks) f) where
+      pub under_below : IsOneUnder place entries values (drop f (take n marks)) → HasBelow fits entries values (integer most)
+      under_below b =
+          let c = contains_behind f (take n marks) b.mark b.listed in
+          let d = contains_whole n marks b.mark c in
+          let t = small_sum (sum b.mark) (get_or entries (place b.mark) []) most (Each-contains (λ m. sum m ≢ None) (drop f (take n marks)) b.mark w.after b.listed) (sum_at b.mark (place b.mark) d refl) (Each-contains (λ m. IsReached integer (sum m) (Some most)) (take n marks) b.mark r.reached c) in
           record {
             place = place b.mark;
             inside = inside_at b.mark (place b.mark) d refl;
-            sum = p.0;
-            small = (let e = p.1 in omega (arith, ints, e, l));
+            sum = t.0;
+            small = t.1;
             below = b.below;
           }
 
-      pub among_below : HasBelow fits entries values (integer most) → HasBelowAmong sum place entries values (take n marks)
-      among_below b =
+      pub none_under_below : NoneOfMarked place entries values (drop f (take n marks)) → ¬ HasBelow fits entries values (integer most)
+      none_under_below h b =
           let t = marked place marks b.place (a.places.each b.place b.inside) in
           let v = some_sum (sum t.0) (get_or entries b.place []) (sum_at t.0 b.place t.1 t.2) b.sum in
           let l : integer v.0 ≤ℤ integer most = (let e = v.2 in let m = b.small in omega (arith, ints, e, m)) in
           elim (halves n marks t.0 t.1) [
-            | inl c ↦ record { mark = t.0; listed = c; value = v.0; summed = v.1; below = subst (λ (k : ℕ). IsBelow (get_or entries k []) values) (sym t.2) b.below }
-            | inr c ↦ absurd (subst (λ (o : Option T). ¬ IsReached integer o (Some most)) v.1 (Each-contains (λ m. ¬ IsReached integer (sum m) (Some most)) (drop n marks) t.0 r.beyond c) l)
+            | inl c ↦ elim (halves f (take n marks) t.0 c) [
+              | inl x ↦ none_apart (sum t.0) v.0 (Each-contains (λ m. sum m ≡ None) (take f (take n marks)) t.0 w.before x) v.1
+              | inr x ↦ Each-contains (λ m. ¬ IsBelow (get_or entries (place m) []) values) (drop f (take n marks)) t.0 h x (subst (λ (k : ℕ). IsBelow (get_or entries k []) values) (sym t.2) b.below)
+            ]
+            | inr c ↦ subst (λ (o : Option T). ¬ IsReached integer o (Some most)) v.1 (Each-contains (λ m. ¬ IsReached integer (sum m) (Some most)) (drop n marks) t.0 r.beyond c) l
           ]
 
     -- ---- one entry more
@@ -207,11 +219,13 @@ module _ {T : Type 0} (integer : T → ℤ) (fits : ℤ → Type 0) where
       longer : length (entries ++ v ∷ []) ≡ length entries + 1
       longer = length-append entries (v ∷ [])
 
-      old_sums : Each (λ m. IsSum integer fits (get_or (entries ++ v ∷ []) (place m) []) (sum m)) marks
-      old_sums = Each-from_contains _ marks (λ m c. subst (λ (x : Vector). IsSum integer fits x (sum m)) (sym (get_or_append_left entries (v ∷ []) [] (place m) (inside_at m (place m) c refl))) (sum_at m (place m) c refl))
-
-      new_sum : IsSum integer fits (get_or (entries ++ v ∷ []) (place new) []) (sum new)
-      new_sum = subst (λ (x : Vector). IsSum integer fits x (sum new)) (sym (get_or_push entries v [] (place new) (sym e))) q
+      -- what holds of each mark and its entry holds of one more
+      pub each_more : (W : Vector → Item → Type 0) → Each (λ m. W (get_or entries (place m) []) m) marks → W v new → Each (λ m. W (get_or (entries ++ v ∷ []) (place m) []) m) (insert marks i new)
+      each_more W o n =
+          let S : Item → Type 0 = λ m. W (get_or (entries ++ v ∷ []) (place m) []) m in
+          let old : Each S marks = Each-from_contains S marks (λ m c. subst (λ (x : Vector). W x m) (sym (get_or_append_left entries (v ∷ []) [] (place m) (inside_at m (place m) c refl))) (Each-contains (λ m. W (get_or entries (place m) []) m) marks m o c)) in
+          let both = subst (Each S) (sym parts) old in
+          Each-append S (take i marks) (new ∷ drop i marks) (Each-front S (take i marks) (drop i marks) both) (subst (λ (x : Vector). W x new) (sym (get_or_push entries v [] (place new) (sym e))) n, Each-back S (take i marks) (drop i marks) both)
 
       once : ListsOnce (λ k. k < length (entries ++ v ∷ [])) (place new ∷ map place marks)
       once = record {
@@ -225,11 +239,8 @@ module _ {T : Type 0} (integer : T → ℤ) (fits : ℤ → Type 0) where
       }
 
       pub marks_more : AreMarks integer fits sum place (entries ++ v ∷ []) (insert marks i new)
-      marks_more =
-          let S : Item → Type 0 = λ m. IsSum integer fits (get_or (entries ++ v ∷ []) (place m) []) (sum m) in
-          let o = subst (Each S) (sym parts) old_sums in
-          record {
-            order = Pairwise-insert (λ a b. RisesTo integer (sum a) (sum b)) (take i marks) (drop i marks) new (subst (Pairwise (λ a b. RisesTo integer (sum a) (sum b))) (sym parts) a.order) p.before p.after;
-            sums = Each-append S (take i marks) (new ∷ drop i marks) (Each-front S (take i marks) (drop i marks) o) (new_sum, Each-back S (take i marks) (drop i marks) o);
-            places = permuted_once (λ k. k < length (entries ++ v ∷ [])) (place new ∷ map place marks) (map place (insert marks i new)) once (IsPermutation-map place (new ∷ marks) (insert marks i new) (IsPermutation-insert marks i new));
-          }
+      marks_more = record {
+        order = Pairwise-insert (λ a b. RisesTo integer (sum a) (sum b)) (take i marks) (drop i marks) new (subst (Pairwise (λ a b. RisesTo integer (sum a) (sum b))) (sym parts) a.order) p.before p.after;
+        sums = each_more (λ x m. IsSum integer fits x (sum m)) a.sums q;
+        places = permuted_once (λ k. k < length (entries ++ v ∷ [])) (place new ∷ map place marks) (map place (insert marks i new)) once (IsPermutation-map place (new ∷ marks) (insert marks i new) (IsPermutation-insert marks i new));
+      }

@@ -1,9 +1,11 @@
 -- Marks of the entries of a table, in the order of their sums.
 use Rattle.std.specs.Prelude.{◌≡◌, ◌≢◌, ⊤, ℕ, ◌<◌, ◌≤◌, ℤ, pos, negsuc, ◌≤ℤ◌, List, [], length, map, take, drop, slice_index_or, Option, Some, None, Contains}
+use Rattle.std.specs.Int.Bits.{bit_and}
 use Rattle.std.specs.List.{AllByRecursion as Each}
 use Rattle.nz_spec.specs.Vectors.{Vector}
 use Rattle.nz_spec.specs.Order.{Pairwise, ListsOnce}
 use Rattle.nz_order.specs.Boxes.{IsBelow}
+use Rattle.nz_reducer.specs.Levels.{IsWordOf}
 use Rattle.nz_reducer.specs.Tables.{total, HasSum}
 
 -- the sum of the values; none exactly where they have none in the type
@@ -63,13 +65,26 @@ pub record IsOneUnder {Item : Type 0} (place : Item → ℕ) (entries : List Vec
   pub listed : Contains marks mark
   pub below : IsBelow (slice_index_or entries (place mark) []) values
 
--- one of the entries with these marks has a sum and is at most the values
-pub record HasBelowAmong {T Item : Type 0} (sum : Item → Option T) (place : Item → ℕ) (entries : List Vector) (values : Vector) (marks : List Item) : Type 0 where
+-- the entry of the mark at this index is at most the values
+pub record IsUnderAt {Item : Type 0} (place : Item → ℕ) (entries : List Vector) (values : Vector) (marks : List Item) (index : ℕ) : Type 0 where
+  pub inside : index < length marks
   pub mark : Item
-  pub listed : Contains marks mark
-  pub value : T
-  pub summed : sum mark ≡ Some value
+  pub at : mark ≡ slice_index_or marks index mark
   pub below : IsBelow (slice_index_or entries (place mark) []) values
+
+-- where an entry is at most the values, the bits of its mark are among those of the values
+abbrev pub TellWords : {Item : Type 0} → (Item → ℕ) → (Item → ℕ) → List Vector → Vector → ℕ → List Item → Type 0
+TellWords place word entries values sought marks = Each (λ m. IsBelow (slice_index_or entries (place m) []) values → bit_and (word m) sought ≡ word m) marks
+
+-- each mark has the word of its entry
+abbrev pub HaveWords : {Level Item : Type 0} → (Level → ℕ) → (Level → ℤ) → List Level → (Item → ℕ) → (Item → ℕ) → List Vector → List Item → Type 0
+HaveWords column value levels place word entries marks = Each (λ m. IsWordOf column value levels (slice_index_or entries (place m) []) (word m)) marks
+
+-- the marks before this index have no sum, and the others have one
+pub record AreWithoutSum {T Item : Type 0} (sum : Item → Option T) (marks : List Item) (index : ℕ) : Type 0 where
+  pub inside : index ≤ length marks
+  pub before : Each (λ m. sum m ≡ None) (take index marks)
+  pub after : Each (λ m. sum m ≢ None) (drop index marks)
 
 -- the larger of a number and 0
 abbrev pub rise : ℤ → ℤ

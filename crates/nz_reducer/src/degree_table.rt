@@ -4,7 +4,9 @@ ghost use Rattle.std.specs.Rc.{rc_slice_items};
 ghost use Rattle.nz_reducer.specs.Tables.{NoneIsBelow, IsFirstBelow, HasAnyBelow, HasSum, IsNumberCompared, HasBelow};
 
 use crate::Table;
-use crate::marks::{Mark, is_any_under, is_one_under, position, reach, search};
+use crate::levels::{Level, levels_for, word_of};
+use crate::marks::{Mark, is_one_under, position, reach, search, without_sum};
+use crate::recent::Recent;
 use crate::sums::sum_of;
 use nz_vec::{NoMemory, Row, Scalar};
 use std::alloc::Global;
@@ -19,6 +21,8 @@ pub struct DegreeTable<T: Scalar> {
     columns: usize,
     entries: Vec<RcSlice<T>>,
     marks: Vec<Mark<T>>,
+    levels: Vec<Level<T>>,
+    recent: Recent,
 }
 
 impl<T: Scalar> Model for DegreeTable<T> {
@@ -27,13 +31,14 @@ impl<T: Scalar> Model for DegreeTable<T> {
     ghost use Rattle.std.specs.List.{AllByRecursion as Each};
     ghost use Rattle.nz_spec.specs.Vectors.{HasWidth};
     ghost use Rattle.nz_reducer.specs.Tables.{TableLists};
-    ghost use Rattle.nz_reducer.specs.Marks.{AreMarks};
+    ghost use Rattle.nz_reducer.specs.Levels.{AreLevels};
+    ghost use Rattle.nz_reducer.specs.Marks.{AreMarks, HaveWords};
 
     ghost Value = { TableLists };
 
     ghost view = { λ t. record { columns = t.columns; rows = map (λ e. map T.integer (rc_slice_items e)) t.entries.items } };
 
-    ghost invariant = { λ t. Each (HasWidth t.columns) (map (λ e. map T.integer (rc_slice_items e)) t.entries.items) × AreMarks T.integer T.fits (λ m. m.sum) (λ m. m.place) (map (λ e. map T.integer (rc_slice_items e)) t.entries.items) t.marks.items };
+    ghost invariant = { λ t. Each (HasWidth t.columns) (map (λ e. map T.integer (rc_slice_items e)) t.entries.items) × AreMarks T.integer T.fits (λ m. m.sum) (λ m. m.place) (map (λ e. map T.integer (rc_slice_items e)) t.entries.items) t.marks.items × AreLevels (λ l. l.column) t.columns t.levels.items × HaveWords (λ l. l.column) (λ l. T.integer l.value) t.levels.items (λ m. m.place) (λ m. m.word) (map (λ e. map T.integer (rc_slice_items e)) t.entries.items) t.marks.items };
 }
 
 impl<T: Scalar> DegreeTable<T> {
@@ -45,6 +50,8 @@ impl<T: Scalar> DegreeTable<T> {
             columns: width,
             entries: Vec::new(alloc),
             marks: Vec::new(alloc),
+            levels: levels_for(alloc, width)?,
+            recent: Recent::new(),
         })
     }
 
@@ -60,6 +67,7 @@ impl<T: Scalar> DegreeTable<T> {
             Err(refusal) => return Err(refusal),
         };
         let sum = sum_of(&row);
+        let word = word_of(self.levels.as_slice(), &row);
         let index = position(self.marks.as_slice(), sum);
         let shared = match values.clone() {
             Ok(shared) => shared,
@@ -70,11 +78,12 @@ impl<T: Scalar> DegreeTable<T> {
             Err(_) => return Err(NoMemory),
         }
         let place = self.entries.len();
-        match self.marks.insert(index, Mark { sum, place }) {
+        match self.marks.insert(index, Mark { sum, place, word }) {
             Ok(()) => {}
             Err(_) => return Err(NoMemory),
         }
         self.entries.push_reserved(shared);
+        self.recent.shift(index);
         Ok(())
     }
 
@@ -103,7 +112,14 @@ impl<T: Scalar> DegreeTable<T> {
         ensures answer { MatchBool result (HasAnyBelow self.old.rows values.now) (NoneIsBelow self.old.rows values.now) }
     {
         let reached = reach(self.marks.as_slice(), sum_of(values));
-        is_one_under(self.entries.as_slice(), &self.marks[..reached], values)
+        let word = word_of(self.levels.as_slice(), values);
+        is_one_under(
+            self.entries.as_slice(),
+            &self.marks[..reached],
+            &mut self.recent,
+            values,
+            word,
+        )
     }
 
     /// Whether an entry whose sum is a value of the type, and at most the given one, is at most the
@@ -114,7 +130,16 @@ impl<T: Scalar> DegreeTable<T> {
         ensures answer { MatchBool result (HasBelow T.fits self.old.rows values.now (T.integer most)) (¬ HasBelow T.fits self.old.rows values.now (T.integer most)) }
     {
         let reached = reach(self.marks.as_slice(), Some(most));
-        is_any_under(self.entries.as_slice(), &self.marks[..reached], values)
+        let found = &self.marks[..reached];
+        let summed = without_sum(found);
+        let word = word_of(self.levels.as_slice(), values);
+        is_one_under(
+            self.entries.as_slice(),
+            &found[summed..],
+            &mut self.recent,
+            values,
+            word,
+        )
     }
 }
 

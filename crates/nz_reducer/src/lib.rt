@@ -7,8 +7,10 @@
 
 mod degree_table;
 mod irreducible;
+mod levels;
 mod list_table;
 mod marks;
+mod recent;
 mod sums;
 mod table;
 mod valued;

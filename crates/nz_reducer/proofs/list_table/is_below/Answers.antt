@@ -6,7 +6,7 @@ use Rattle.nz_reducer.proofs.list_table.is_below.Goals as goal
 pub returns-then-is_above : goal.returns-then-is_above
 returns-then-is_above g c = λ b.
     let l : c.loop-column.column < length c.args.low.now = omega (arith, c.len-column-end.ensures) in
-    let k = zip_at c.args.low.now c.args.high.now c.loop-column.column l b in
+    let k = zip_at c.args.low.now c.args.high.now c.loop-column.column b in
     c.if-is_above.ensures (omega (arith, ints, k, c.at.ensures, c.at-in-loop-column.ensures))
 
 pub loop-column-preserved : goal.loop-column-preserved

@@ -9,7 +9,7 @@ pub returns-then-not-is_at_most : goal.returns-then-not-is_at_most
 returns-then-not-is_at_most g c = λ b.
     let xs = map g.T.Scalar.integer c.args.entry.now in
     let l : c.loop-column.column < length xs = omega (arith, length-map c.args.entry.now g.T.Scalar.integer, c.loop-column-test.true) in
-    let k = zip_at xs c.args.values.now c.loop-column.column l b in
+    let k = zip_at xs c.args.values.now c.loop-column.column b in
     let e = at_map g.T.Scalar.integer c.args.entry.now c.loop-column.column c.index-entry-column.result c.loop-column-test.true c.index-entry-column.is in
     c.if-not-is_at_most.ensures (omega (arith, ints, k, e, c.at.ensures))
 

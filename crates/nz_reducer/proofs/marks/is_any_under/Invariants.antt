@@ -1,7 +1,0 @@
-use Rattle.std.proofs.Common.{map, take}
-use Rattle.std.specs.Rc.{rc_slice_items}
-use Rattle.nz_reducer.specs.Marks.{HasBelowAmong}
-use Rattle.nz_reducer.proofs.marks.is_any_under.Given as goal
-
-abbrev pub invariant-loop-index : goal.invariant-loop-index
-invariant-loop-index g l = ¬ HasBelowAmong (λ m. m.sum) (λ m. m.place) (map (λ e. map g.T.Scalar.integer (rc_slice_items e)) l.entries) l.values (take l.index l.marks)
