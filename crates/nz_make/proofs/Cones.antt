@@ -11,14 +11,14 @@ use Rattle.nz_linear.proofs.Signs.{cancel_le}
 use Rattle.nz_system.specs.Meaning.{system_of}
 use Rattle.nz_make.specs.Squares.{corners, made_file}
 
-three : (x : List ℤ) → length x ≡ 3 → (a b c : ℤ) × (x ≡ a ∷ b ∷ c ∷ [])
+pub three : (x : List ℤ) → length x ≡ 3 → (a b c : ℤ) × (x ≡ a ∷ b ∷ c ∷ [])
 three [] h = absurd (omega arith)
 three (a ∷ []) h = absurd (omega arith)
 three (a ∷ b ∷ []) h = absurd (omega arith)
 three (a ∷ b ∷ c ∷ []) h = (a, b, c, refl)
 three (a ∷ b ∷ c ∷ d ∷ x) h = absurd (omega arith)
 
-four : (x : List ℤ) → length x ≡ 4 → (a b c d : ℤ) × (x ≡ a ∷ b ∷ c ∷ d ∷ [])
+pub four : (x : List ℤ) → length x ≡ 4 → (a b c d : ℤ) × (x ≡ a ∷ b ∷ c ∷ d ∷ [])
 four [] h = absurd (omega arith)
 four (a ∷ x) h = (let u = three x (omega arith) in (a, u.0, u.1, u.2, ap (λ (t : List ℤ). a ∷ t) u.3))
 

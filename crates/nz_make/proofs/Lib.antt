@@ -2,3 +2,9 @@ pub mod MadeFiles
 pub mod Cones
 pub mod Points
 pub mod Listing
+pub mod Extremes
+pub mod Boxes
+pub mod Inner
+pub mod HeldSums
+pub mod Triangles
+pub mod PrimalCrowds

@@ -61,17 +61,17 @@ in_lines n i (suc m) last e = each_append (IsInLines n i last) (line_from i 0 (s
     (Each-weaker (IsOnLine i 0 (suc n)) (IsInLines n i last) (λ x h. let k = h.to in record { row = i; at = h.at; from = omega arith; to = omega arith; within = omega (arith, k); same = h.same }) (line_from i 0 (suc n)) (on_line i 0 (suc n) (suc n) (omega arith)))
     (Each-weaker (IsInLines n (suc i) last) (IsInLines n i last) (λ x h. let l = h.from in record { row = h.row; at = h.at; from = omega (arith, l); to = h.to; within = h.within; same = h.same }) (lines_from n (suc i) m) (in_lines n (suc i) m last (omega arith)))
 
-are_points : (n : ℕ) → Each (IsPoint n) (points n)
+pub are_points : (n : ℕ) → Each (IsPoint n) (points n)
 are_points n = Each-weaker (IsInLines n 0 (suc n)) (IsPoint n) (λ x h. let k = h.to in record { i = h.row; j = h.at; i_within = omega (arith, k); j_within = h.within; same = h.same }) (points n) (in_lines n 0 (suc n) (suc n) (omega arith))
 
 -- ---- each point
 
-contains_left : {A : Type 0} (xs ys : List A) (x : A) → Contains xs x → Contains (xs ++ ys) x
+pub contains_left : {A : Type 0} (xs ys : List A) (x : A) → Contains xs x → Contains (xs ++ ys) x
 contains_left [] ys x h = absurd (let k = h.1 in let f : ⊥ = omega arith in f)
 contains_left (y ∷ xs) ys x (zero, h, e) = (zero, omega arith, e)
 contains_left (y ∷ xs) ys x (suc k, h, e) = contains_there y x (xs ++ ys) (contains_left xs ys x (k, omega (arith, h), e))
 
-contains_right : {A : Type 0} (xs ys : List A) (x : A) → Contains ys x → Contains (xs ++ ys) x
+pub contains_right : {A : Type 0} (xs ys : List A) (x : A) → Contains ys x → Contains (xs ++ ys) x
 contains_right [] ys x h = h
 contains_right (y ∷ xs) ys x h = contains_there y x (xs ++ ys) (contains_right xs ys x h)
 
@@ -85,15 +85,15 @@ lines_have n i zero k row at e h l = absurd (let f : ⊥ = omega arith in f)
 lines_have n i (suc m) zero row at e h l = subst (λ (t : ℕ). Contains (lines_from n i (suc m)) (point t at)) {x = i} {y = row} (omega arith) (contains_left (line_from i 0 (suc n)) (lines_from n (suc i) m) (point i at) (line_has i 0 (suc n) at at (omega arith) (omega arith)))
 lines_have n i (suc m) (suc k) row at e h l = contains_right (line_from i 0 (suc n)) (lines_from n (suc i) m) (point row at) (lines_have n (suc i) m k row at (omega arith) (omega arith) l)
 
-has_point : (n : ℕ) (x : Vector) → IsPoint n x → Contains (points n) x
+pub has_point : (n : ℕ) (x : Vector) → IsPoint n x → Contains (points n) x
 has_point n x p = let h = p.i_within in subst (Contains (points n)) (sym p.same) (lines_have n 0 (suc n) p.i p.i p.j (omega arith) (omega (arith, h)) p.j_within)
 
 -- ---- in order
 
-later_entry : (i j k : ℕ) → j < k → IsLexBefore (point i j) (point i k)
+pub later_entry : (i j k : ℕ) → j < k → IsLexBefore (point i j) (point i k)
 later_entry i j k h = inr (refl, inl (omega (arith, ints, h)))
 
-later_line : (i j k l : ℕ) → i < k → IsLexBefore (point i j) (point k l)
+pub later_line : (i j k l : ℕ) → i < k → IsLexBefore (point i j) (point k l)
 later_line i j k l h = inl (omega (arith, ints, h))
 
 line_in_order : (i j m : ℕ) → Pairwise IsLexBefore (line_from i j m)
@@ -106,7 +106,7 @@ line_in_order i j (suc m) = (
 before_lines : (n i m j : ℕ) → Each (IsLexBefore (point i j)) (lines_from n (suc i) m)
 before_lines n i m j = Each-weaker (IsInLines n (suc i) (suc i + m)) (IsLexBefore (point i j)) (λ x h. let l = h.from in subst (IsLexBefore (point i j)) (sym h.same) (later_line i j h.row h.at (omega (arith, l)))) (lines_from n (suc i) m) (in_lines n (suc i) m (suc i + m) refl)
 
-lines_in_order : (n i m : ℕ) → Pairwise IsLexBefore (lines_from n i m)
+pub lines_in_order : (n i m : ℕ) → Pairwise IsLexBefore (lines_from n i m)
 lines_in_order n i zero = tt
 lines_in_order n i (suc m) = Pairwise-append IsLexBefore (line_from i 0 (suc n)) (lines_from n (suc i) m) (line_in_order i 0 (suc n)) (lines_in_order n (suc i) m)
     (Each-weaker (IsOnLine i 0 (suc n)) (λ x. Each (IsLexBefore x) (lines_from n (suc i) m)) (λ x h. subst (λ (t : Vector). Each (IsLexBefore t) (lines_from n (suc i) m)) (sym h.same) (before_lines n i m h.at)) (line_from i 0 (suc n)) (on_line i 0 (suc n) (suc n) (omega arith)))
@@ -117,10 +117,10 @@ line_length : (i j m : ℕ) → length (line_from i j m) ≡ m
 line_length i j zero = refl
 line_length i j (suc m) = ap suc (line_length i (suc j) m)
 
-one_more : (m k : ℕ) → suc m * k ≡ k + m * k
+pub one_more : (m k : ℕ) → suc m * k ≡ k + m * k
 one_more m k = grind arith
 
-lines_length : (n i m : ℕ) → length (lines_from n i m) ≡ m * suc n
+pub lines_length : (n i m : ℕ) → length (lines_from n i m) ≡ m * suc n
 lines_length n i zero = omega arith
 lines_length n i (suc m) = omega (arith, length-append (line_from i 0 (suc n)) (lines_from n (suc i) m), line_length i 0 (suc n), lines_length n (suc i) m, one_more m (suc n))
 

@@ -12,11 +12,11 @@ use Rattle.nz_system.specs.Meaning.{system_of}
 use Rattle.nz_make.specs.Squares.{made_file, point, IsPoint}
 use Rattle.nz_make.proofs.Cones.{IsOver, three_same, entries_of_member, member_of_entries}
 
-nonzero_at_level : (a b c : ℤ) → pos 1 ≤ℤ c → IsNonzero (a ∷ b ∷ c ∷ [])
+pub nonzero_at_level : (a b c : ℤ) → pos 1 ≤ℤ c → IsNonzero (a ∷ b ∷ c ∷ [])
 nonzero_at_level a b c h z = let e = z.1.1.0 in omega (arith, ints, h, e)
 
 -- what is 0 at the third entry is 0
-flat_is_zero : (n a b c : ℤ) → pos 1 ≤ℤ n → IsOver n a b c → c ≤ℤ pos 0 → (a ≡ pos 0) × ((b ≡ pos 0) × (c ≡ pos 0))
+pub flat_is_zero : (n a b c : ℤ) → pos 1 ≤ℤ n → IsOver n a b c → c ≤ℤ pos 0 → (a ≡ pos 0) × ((b ≡ pos 0) × (c ≡ pos 0))
 flat_is_zero n a b c h o l =
     let n0 : pos 0 ≤ℤ n = omega (arith, sums, h) in
     let above : (n *ℤ c) ≤ℤ (n *ℤ pos 0) = mul_le n c (pos 0) n0 l in
@@ -96,11 +96,11 @@ not_above n a b c l o two irreducible =
     (member_of_entries n (a -ℤ s.part) (b -ℤ t.part) (c -ℤ pos 1) l rest oz) (nonzero_at_level (a -ℤ s.part) (b -ℤ t.part) (c -ℤ pos 1) rest)
     (three_same (joined a s.part) (joined b t.part) (joined c (pos 1)))
 
-whole : (n : ℕ) (a : ℤ) → pos 0 ≤ℤ a → a ≤ℤ pos n → (i : ℕ) × (i ≤ n) × (a ≡ pos i)
+pub whole : (n : ℕ) (a : ℤ) → pos 0 ≤ℤ a → a ≤ℤ pos n → (i : ℕ) × (i ≤ n) × (a ≡ pos i)
 whole n (pos i) h k = (i, omega (arith, ints, k), refl)
 whole n (negsuc i) h k = absurd (omega (arith, ints, h))
 
-point_at_one : (n : ℕ) (a b c : ℤ) → IsOver (pos n) a b c → c ≡ pos 1 → IsPoint n (a ∷ b ∷ c ∷ [])
+pub point_at_one : (n : ℕ) (a b c : ℤ) → IsOver (pos n) a b c → c ≡ pos 1 → IsPoint n (a ∷ b ∷ c ∷ [])
 point_at_one n a b c o e =
     let same : pos n *ℤ c ≡ pos n = ap (λ (t : ℤ). pos n *ℤ t) e ∙ mul-one (pos n) in
     let u = whole n a o.a_low (omega (arith, sums, o.a_high, same)) in
