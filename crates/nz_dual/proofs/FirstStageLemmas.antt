@@ -8,6 +8,7 @@ use Rattle.nz_spec.specs.Covers.{vectors_at}
 use Rattle.nz_spec.specs.Monoids.{IsPositive}
 use Rattle.nz_spec.specs.Order.{IsLexBefore, IsListOf}
 use Rattle.nz_spec.specs.Stages.{IsInStage}
+use Rattle.nz_spec.specs.Boxes.{IsBoxMember}
 use Rattle.nz_spec.specs.Sums.{IsInSpan, IsInCone, IsIndependent}
 use Rattle.nz_spec.proofs.ListLaws.{Each-contains, Each-from_contains}
 use Rattle.nz_spec.proofs.SumLaws.{IsInCone-box, length-combination}
@@ -106,6 +107,9 @@ module _ (rows rays : List Vector) (s : IsFullSimplex rays rows) where
   pub positive_stage : IsPositive (IsInStage (HasWidth (length rays)) rows)
   positive_stage = positive_of_pointed (length rays) rows (IsInStage (HasWidth (length rays)) rows) rows_pointed (λ x m. (m.in_lattice, m.at_least))
 
+  pub rays_free : IsIndependent (length rays) rays
+  rays_free = subst (λ (vs : List Vector). IsIndependent (length rays) vs) vectors_of_pairs (dual_independent (length rays) (paired rows rays) s.dual)
+
   ray_in_stage : (v : Vector) → Contains rays v → IsInStage (HasWidth (length rays)) rows v
   ray_in_stage v c = cone_in_stage v (Each-contains (HasWidth (length rays)) rays v rays_wide c) (cone_member (length rays) rays v rays_wide c)
 
@@ -113,14 +117,17 @@ module _ (rows rays : List Vector) (s : IsFullSimplex rays rows) where
   point_in_stage v p = cone_in_stage v p.0 (IsInCone-box (length rays) rays v p.1)
 
   -- ---- the points and the rays
-  pub point_listed : (v : Vector) → IsPoint (length rays) rays v → IsStartCandidate (length rays) rows rays v
-  point_listed v p = inr (record {
+  pub point_boxed : (v : Vector) → IsPoint (length rays) rays v → IsBoxMember (length rays) (IsInStage (HasWidth (length rays)) rows) rays v
+  point_boxed v p = record {
     member = point_in_stage v p;
     vectors = rays;
     of_list = Each-from_contains (Contains rays) rays (λ u c. c);
-    independent = subst (λ (vs : List Vector). IsIndependent (length rays) vs) vectors_of_pairs (dual_independent (length rays) (paired rows rays) s.dual);
+    independent = rays_free;
     in_box = p.1;
-  })
+  }
+
+  pub point_listed : (v : Vector) → IsPoint (length rays) rays v → IsStartCandidate (length rays) rows rays v
+  point_listed v p = inr (point_boxed v p)
 
   module _ (candidates : List Vector) (a : AreCandidates rays candidates) where
     listed : (v : Vector) → Contains candidates v → IsPoint (length rays) rays v ⊎ Contains rays v

@@ -10,6 +10,7 @@ pub mod FiniteLemmas
 pub mod OrderLemmas
 pub mod RunLemmas
 pub mod RefusalLemmas
+pub mod CrowdLemmas
 pub mod InsertionLemmas
 pub mod WholeLemmas
 pub mod NumberCauses

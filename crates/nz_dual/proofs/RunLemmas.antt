@@ -15,7 +15,7 @@ use Rattle.nz_vec.specs.declared.answers.Work.TheVariants.{Range, TooMany, Stopp
 use Rattle.nz_watch.specs.Watching.{Pair}
 use Rattle.nz_watch.specs.Telling.{Watched, WasTold, HasPassed, HasPassedAll, HasStopped}
 use Rattle.nz_watch.proofs.TellingLemmas.{none_told, told_one_more}
-use Rattle.nz_dual.specs.Runs.{AreOrderedStages, IsRunRefusal, IsStopAt, IsLeftAs}
+use Rattle.nz_dual.specs.Runs.{AreOrderedStages, AreNotCrowded, IsRunRefusal, IsStopAt, IsLeftAs}
 use Rattle.nz_dual.proofs.FiniteLemmas.{finitely_many}
 
 -- ---- all stages have a number of irreducibles
@@ -132,20 +132,20 @@ module _ (S R : List Pair → Type 0) (to : (ps : List Pair) → S ps → R ps) 
   pub passed_all_where : HasPassedAll S told before now → HasPassedAll R told before now
   passed_all_where h = record { passed = h.passed; telling = passed_where h.passed false h.telling; all = h.all }
 
-  pub refused_where : (P Q : ℕ → Work → Type 0) → ((i : ℕ) (e : Work) → P i e → Q i e) → (e : Work) → IsRunRefusal S P told before now e → IsRunRefusal R Q told before now e
-  refused_where P Q f (Range number) h = (record { passed = h.0.passed; telling = passed_where h.0.passed false h.0.telling; is_greater = h.0.is_greater }, f h.0.passed (Range 0) h.1)
-  refused_where P Q f TooMany h = (h.0, passed_where h.0 false h.1, f h.0 TooMany h.2)
-  refused_where P Q f (Stopped stage) h = record { passed = h.passed; new = h.new; telling = passed_where h.passed true h.telling; is_last = h.is_last }
-  refused_where P Q f NoMemory h = (h.0, passed_where h.0 false h.1)
+  pub refused_where : (P Q : ℕ → Work → Type 0) → ((i : ℕ) (e : Work) → P i e → Q i e) → ((i : ℕ) → AreNotCrowded P i → AreNotCrowded Q i) → (e : Work) → IsRunRefusal S P told before now e → IsRunRefusal R Q told before now e
+  refused_where P Q f g (Range number) h = (record { passed = h.0.passed; telling = passed_where h.0.passed false h.0.telling; is_greater = h.0.is_greater }, f h.0.passed (Range 0) h.1, g h.0.passed h.2)
+  refused_where P Q f g TooMany h = (h.0, passed_where h.0 false h.1, f h.0 TooMany h.2)
+  refused_where P Q f g (Stopped stage) h = record { passed = h.passed; new = h.new; telling = passed_where h.passed true h.telling; is_last = h.is_last }
+  refused_where P Q f g NoMemory h = (h.0, passed_where h.0 false h.1)
 
 -- ---- refusals
 module _ (S : List Pair → Type 0) (P : ℕ → Work → Type 0) (told i : ℕ) (before now : Watched) (h : HasPassed S told i before now false) where
   -- the stage after those that were passed is refused
-  pub left_refused : (refusal e : Work) → ((number : ℕ) → P i (Range number) → P i (Range 0)) → ((stage : ℕ) → ¬ P i (Stopped stage)) → P i refusal → IsLeftAs told i refusal e → IsRunRefusal S P told before now e
-  left_refused (Range number) e without never p k = subst (IsRunRefusal S P told before now) (sym k) (record { passed = i; telling = h; is_greater = refl }, without number p)
-  left_refused TooMany e without never p k = subst (IsRunRefusal S P told before now) (sym k) (i, h, p)
-  left_refused (Stopped stage) e without never p k = absurd (never stage p)
-  left_refused NoMemory e without never p k = subst (IsRunRefusal S P told before now) (sym k) (i, h)
+  pub left_refused : (refusal e : Work) → ((number : ℕ) → P i (Range number) → P i (Range 0)) → ((stage : ℕ) → ¬ P i (Stopped stage)) → AreNotCrowded P i → P i refusal → IsLeftAs told i refusal e → IsRunRefusal S P told before now e
+  left_refused (Range number) e without never few p k = subst (IsRunRefusal S P told before now) (sym k) (record { passed = i; telling = h; is_greater = refl }, without number p, few)
+  left_refused TooMany e without never few p k = subst (IsRunRefusal S P told before now) (sym k) (i, h, p)
+  left_refused (Stopped stage) e without never few p k = absurd (never stage p)
+  left_refused NoMemory e without never few p k = subst (IsRunRefusal S P told before now) (sym k) (i, h)
 
   pub memory_refused : (e : Work) → e ≡ NoMemory → IsRunRefusal S P told before now e
   memory_refused e k = subst (IsRunRefusal S P told before now) (sym k) (i, h)

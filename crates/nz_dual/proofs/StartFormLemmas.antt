@@ -27,9 +27,6 @@ use Rattle.nz_classes.specs.Walks.{paired, IsFullSimplex}
 use Rattle.nz_range.specs.Measures.{measure, pair_measure, SomeLarge}
 use Rattle.nz_range.proofs.Fits.{gcd_fits}
 use Rattle.nz_range.proofs.Causes.{or_large, value_cause}
-use Rattle.nz_spec.specs.Order.{IsLexBefore, IsListOf}
-use Rattle.nz_order.proofs.OrderLaws.{lex_irreflexive}
-use Rattle.nz_order.proofs.SortLaws.{IsListOf-once, MoreThan-list}
 use Rattle.nz_vec.specs.Sums.{HasValueOutside}
 use Rattle.nz_vec.specs.declared.answers.Num.{Num}
 use Rattle.nz_vec.specs.declared.answers.Num.TheVariants as num
@@ -37,7 +34,6 @@ use Rattle.nz_vec.specs.declared.answers.Work.{Work}
 use Rattle.nz_vec.specs.declared.answers.Work.TheVariants.{Range, TooMany, Stopped, NoMemory}
 use Rattle.nz_classes.specs.Classes.{IsPoint}
 use Rattle.nz_classes.specs.Walks.{IsNamed, IsRefusal, IsTooLarge}
-use Rattle.nz_reducer.specs.Reducers.{IsUnreduced}
 use Rattle.nz_dual.specs.FirstStage.{IsStartCandidate, IsStartVector, IsStartForm, IsStartTooLarge, IsStartRefusal, AreCandidates}
 use Rattle.nz_dual.specs.Sides.{IsWorkOf}
 use Rattle.nz_dual.proofs.FirstStageLemmas.{span_all, vectors_of_pairs, forms_of_pairs, point_listed, candidate_named}
@@ -195,12 +191,6 @@ module _ (rows rays : List Vector) (s : IsFullSimplex rays rows) where
   reducing_refused h fits room limit candidates a refusal TooMany f w = absurd w
   reducing_refused h fits room limit candidates a refusal (Stopped stage) f w = w
   reducing_refused h fits room limit candidates a refusal NoMemory f w = tt
-
-  pub many_refused : (h : ℤ) (limit : ℕ) (candidates : List Vector) → AreCandidates rays candidates → (xs : List Vector) → IsListOf IsLexBefore (IsUnreduced rows candidates) xs → (work : Work) → (work ≡ TooMany) × (limit < length xs) → IsStartRefusal h limit (length rays) rows rays work
-  many_refused h limit candidates a xs l work w =
-      let once = IsListOf-once IsLexBefore lex_irreflexive (IsUnreduced rows candidates) xs l in
-      let named = each_map (IsUnreduced rows candidates) (IsStartCandidate (length rays) rows rays) xs (λ v u. candidate_named rows rays s candidates a v u.candidate) l.only in
-      subst (IsStartRefusal h limit (length rays) rows rays) (sym w.0) (MoreThan-list (IsStartCandidate (length rays) rows rays) xs limit once.in_order named w.1)
 
 pub start_no_memory : (h : ℤ) (limit w : ℕ) (rows rays : List Vector) (work : Work) → work ≡ NoMemory → IsStartRefusal h limit w rows rays work
 start_no_memory h limit w rows rays work e = subst (IsStartRefusal h limit w rows rays) (sym e) tt

@@ -38,3 +38,7 @@ pub record AreCandidates (rays candidates : List Vector) : Type 0 where
   pub points : List Vector
   pub lists : IsListOf IsLexBefore (IsPoint (length rays) rays) points
   pub whole : candidates ≡ points ++ rays
+
+-- the rays and these vectors are not more than the limit
+abbrev pub IsStartWithin : ℕ → ℕ → List Vector → List Vector → Type 0
+IsStartWithin limit w rows rays = ¬ MoreThan limit (IsStartCandidate w rows rays)

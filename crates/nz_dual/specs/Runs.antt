@@ -1,5 +1,5 @@
 -- What a run through the stages of rows tells and answers.
-use Rattle.std.specs.Prelude.{◌≡◌, ℕ, ◌≤◌, ◌-◌, max, List, [], ◌∷◌, drop, true, false}
+use Rattle.std.specs.Prelude.{◌≡◌, ℕ, ◌<◌, ◌≤◌, ◌-◌, max, List, [], ◌∷◌, drop, true, false}
 use Rattle.nz_spec.specs.Vectors.{Vector, HasWidth}
 use Rattle.nz_spec.specs.Monoids.{IsIrreducible}
 use Rattle.nz_spec.specs.Stages.{IsInStage, CountsStages}
@@ -12,9 +12,17 @@ use Rattle.nz_vec.specs.declared.answers.Work.TheVariants.{Range, TooMany, Stopp
 abbrev pub AreOrderedStages : ℕ → List Vector → List Pair → Type 0
 AreOrderedStages w ordered = CountsStages (λ first. IsIrreducible (IsInStage (HasWidth w) first)) w ordered
 
+-- none of the first stages, so many, has to hold more than the limit
+abbrev pub AreNotCrowded : (ℕ → Work → Type 0) → ℕ → Type 0
+AreNotCrowded Refused passed = (p : ℕ) → p < passed → ¬ Refused p TooMany
+
+-- no stage has to hold more than the limit
+abbrev pub NoneIsCrowded : (ℕ → Work → Type 0) → Type 0
+NoneIsCrowded Refused = (p : ℕ) → ¬ Refused p TooMany
+
 -- why a run gives no list: the stage after those that were passed is refused, the watch stopped it, or no memory
 abbrev pub IsRunRefusal : (List Pair → Type 0) → (ℕ → Work → Type 0) → ℕ → Watched → Watched → Work → Type 0
-IsRunRefusal Stages Refused told before now (Range number) = (left : HasLeft Stages told number before now) × Refused left.passed (Range 0)
+IsRunRefusal Stages Refused told before now (Range number) = (left : HasLeft Stages told number before now) × Refused left.passed (Range 0) × AreNotCrowded Refused left.passed
 IsRunRefusal Stages Refused told before now TooMany = (passed : ℕ) × HasPassed Stages told passed before now false × Refused passed TooMany
 IsRunRefusal Stages Refused told before now (Stopped stage) = HasStopped Stages told stage before now
 IsRunRefusal Stages Refused told before now NoMemory = (passed : ℕ) × HasPassed Stages told passed before now false

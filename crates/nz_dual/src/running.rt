@@ -8,7 +8,7 @@ ghost use Rattle.nz_spec.specs.Stages.{AreStages};
 ghost use Rattle.nz_pointed.specs.Pointed.{IsSimplexOf};
 ghost use Rattle.nz_watch.specs.Telling.{WasTold, HasPassedAll};
 ghost use Rattle.nz_dual.specs.DualStages.{IsElement};
-ghost use Rattle.nz_dual.specs.Runs.{AreOrderedStages, IsRunRefusal, IsStopAt, IsLeftAs};
+ghost use Rattle.nz_dual.specs.Runs.{AreOrderedStages, NoneIsCrowded, IsRunRefusal, IsStopAt, IsLeftAs};
 ghost use Rattle.nz_dual.specs.Refusals.{IsRowOf, IsStageOf};
 
 use crate::Stage;
@@ -23,7 +23,8 @@ use std::alloc::Global;
 ///
 /// A stage is the number of rows so far and that of the irreducibles; the first `told_before` stages
 /// are not told. The number of Range is the greater of `told_before` and the number of stages passed
-/// in this call. TooMany and Range come as `Stage::start` or a `Stage::insert` gives them.
+/// in this call. TooMany and Range come as `Stage::start` or a `Stage::insert` gives them. A stage that
+/// was passed is none at which TooMany could come.
 pub fn dual<T: Scalar>(
     alloc: Global,
     rows: &Rows<T>,
@@ -36,6 +37,7 @@ pub fn dual<T: Scalar>(
     requires simplex { IsSimplexOf (length simplex.now.places) rows.now simplex.now.places simplex.now.rays }
     ensures run { MatchResult result (λ list. IsListOf IsLexBefore (IsElement (length simplex.now.places) rows.now) list × HasPassedAll (AreStages (length simplex.now.places) (HasWidth (length simplex.now.places)) rows.now) told_before (seen watch.old) (seen watch.new)) (λ e. IsRunRefusal (AreStages (length simplex.now.places) (HasWidth (length simplex.now.places)) rows.now) (IsStageOf T.HALF limit (length simplex.now.places) rows.now (vectors_at rows.now simplex.now.places) simplex.now.rays) told_before (seen watch.old) (seen watch.new) e) }
     ensures within { IfOk result (λ list. length list ≤ limit) }
+    ensures not_crowded { IfOk result (λ _. NoneIsCrowded (IsStageOf T.HALF limit (length simplex.now.places) rows.now (vectors_at rows.now simplex.now.places) simplex.now.rays)) }
 {
     let others = match other_rows(alloc, rows, &simplex.places) {
         Ok(others) => others,
@@ -63,7 +65,7 @@ fn all_inserted<T: Scalar>(
 ) -> Result<Stage<T>, Work>
     requires wide { Each (HasWidth (length simplex.now.places)) (vectors_at rows.now simplex.now.places ++ others.now) }
     requires simplex { IsSimplexOf (length simplex.now.places) rows.now simplex.now.places simplex.now.rays }
-    ensures { MatchResult result (λ s. (s.width ≡ length simplex.now.places) × (s.rows ≡ vectors_at rows.now simplex.now.places ++ others.now) × HasPassedAll (AreOrderedStages (length simplex.now.places) (vectors_at rows.now simplex.now.places ++ others.now)) told_before (seen watch.old) (seen watch.new) × (length s.list ≤ limit)) (λ e. IsRunRefusal (AreOrderedStages (length simplex.now.places) (vectors_at rows.now simplex.now.places ++ others.now)) (IsRowOf T.HALF limit (length simplex.now.places) (vectors_at rows.now simplex.now.places) simplex.now.rays others.now) told_before (seen watch.old) (seen watch.new) e) }
+    ensures { MatchResult result (λ s. (s.width ≡ length simplex.now.places) × (s.rows ≡ vectors_at rows.now simplex.now.places ++ others.now) × HasPassedAll (AreOrderedStages (length simplex.now.places) (vectors_at rows.now simplex.now.places ++ others.now)) told_before (seen watch.old) (seen watch.new) × (length s.list ≤ limit) × NoneIsCrowded (IsRowOf T.HALF limit (length simplex.now.places) (vectors_at rows.now simplex.now.places) simplex.now.rays others.now)) (λ e. IsRunRefusal (AreOrderedStages (length simplex.now.places) (vectors_at rows.now simplex.now.places ++ others.now)) (IsRowOf T.HALF limit (length simplex.now.places) (vectors_at rows.now simplex.now.places) simplex.now.rays others.now) told_before (seen watch.old) (seen watch.new) e) }
 {
     let mut stage = match Stage::start(alloc, rows, simplex, limit) {
         Ok(stage) => stage,

@@ -5,7 +5,7 @@ ghost use Rattle.nz_spec.specs.Covers.{vectors_at};
 ghost use Rattle.nz_spec.specs.Order.{IsLexBefore, IsListOf, ListsOnce};
 ghost use Rattle.nz_pointed.specs.Pointed.{IsSimplexOf};
 ghost use Rattle.nz_dual.specs.DualStages.{IsStage, IsStageList, AreLists, IsElement, IsReversedElement, IsInsertRefusal};
-ghost use Rattle.nz_dual.specs.FirstStage.{IsStartRefusal};
+ghost use Rattle.nz_dual.specs.FirstStage.{IsStartRefusal, IsStartWithin};
 ghost use Rattle.nz_dual.specs.Sides.{IsEmpty};
 
 use crate::closing::{close, offer_all};
@@ -52,6 +52,7 @@ impl<T: Scalar> Stage<T> {
         ensures list { IfOk result (λ s. ListsOnce (IsElement s.width s.rows) s.list) }
         ensures reversed { IfOk result (λ s. s.reversed ≡ []) }
         ensures within { IfOk result (λ s. length s.list ≤ limit) }
+        ensures candidates { IfOk result (λ _. IsStartWithin limit (length simplex.now.places) (vectors_at rows.now simplex.now.places) simplex.now.rays) }
         ensures refusal { IfErr result (IsStartRefusal T.HALF limit (length simplex.now.places) (vectors_at rows.now simplex.now.places) simplex.now.rays) }
     {
         let chosen = match rows.at_places(&simplex.places) {

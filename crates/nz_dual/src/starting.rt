@@ -6,7 +6,7 @@ ghost use Rattle.nz_vec.specs.Primitives.{IsPrimitivePart};
 ghost use Rattle.nz_range.specs.Measures.{SomeLarge};
 ghost use Rattle.nz_classes.specs.Walks.{IsFullSimplex};
 ghost use Rattle.nz_dual.specs.DualStages.{IsElement};
-ghost use Rattle.nz_dual.specs.FirstStage.{AreCandidates, IsStartRefusal};
+ghost use Rattle.nz_dual.specs.FirstStage.{AreCandidates, IsStartRefusal, IsStartWithin};
 
 use crate::sides::{within, work_of};
 use nz_classes::walk;
@@ -24,24 +24,19 @@ pub(crate) fn first_list<T: Scalar>(
     limit: u32,
 ) -> Result<Rows<T>, Work>
     requires { IsFullSimplex rays.now rows.now }
-    ensures { MatchResult result (λ list. IsListOf IsLexBefore (IsElement (length rays.now) rows.now) list × (length list ≤ limit)) (IsStartRefusal T.HALF limit (length rays.now) rows.now rays.now) }
+    ensures { MatchResult result (λ list. IsListOf IsLexBefore (IsElement (length rays.now) rows.now) list × (length list ≤ limit) × IsStartWithin limit (length rays.now) rows.now rays.now) (IsStartRefusal T.HALF limit (length rays.now) rows.now rays.now) }
 {
     let candidates = match candidates_of(alloc, rows, rays, limit) {
         Ok(candidates) => candidates,
         Err(refusal) => return Err(refusal),
     };
-    let list = match irreducibles(alloc, &candidates, rows) {
-        Ok(list) => list,
-        Err(refusal) => return Err(work_of(refusal)),
-    };
-    match within(list.len(), limit) {
-        Ok(()) => {}
-        Err(refusal) => return Err(refusal),
+    match irreducibles(alloc, &candidates, rows) {
+        Ok(list) => Ok(list),
+        Err(refusal) => Err(work_of(refusal)),
     }
-    Ok(list)
 }
 
-/// The vectors of the half-open parallelepiped, and the rays.
+/// The vectors of the half-open parallelepiped, and the rays: all that the stage has to hold at once.
 fn candidates_of<T: Scalar>(
     alloc: Global,
     rows: &Rows<T>,
@@ -49,19 +44,23 @@ fn candidates_of<T: Scalar>(
     limit: u32,
 ) -> Result<Rows<T>, Work>
     requires { IsFullSimplex rays.now rows.now }
-    ensures { MatchResult result (AreCandidates rays.now) (IsStartRefusal T.HALF limit (length rays.now) rows.now rays.now) }
+    ensures { MatchResult result (λ list. AreCandidates rays.now list × (length list ≤ limit)) (IsStartRefusal T.HALF limit (length rays.now) rows.now rays.now) }
 {
     let forms = match primitives(alloc, rows) {
         Ok(forms) => forms,
         Err(refusal) => return Err(work_of(refusal)),
     };
-    let candidates = match walk(alloc, rays, &forms, limit) {
+    let points = match walk(alloc, rays, &forms, limit) {
         Ok(points) => points,
         Err(refusal) => return Err(refusal),
     };
-    match Rows::joined(candidates, rays) {
-        Ok(candidates) => Ok(candidates),
-        Err(refusal) => Err(Work::from(refusal)),
+    let candidates = match Rows::joined(points, rays) {
+        Ok(candidates) => candidates,
+        Err(refusal) => return Err(Work::from(refusal)),
+    };
+    match within(candidates.len(), limit) {
+        Ok(()) => Ok(candidates),
+        Err(refusal) => Err(refusal),
     }
 }
 
