@@ -1,5 +1,5 @@
 -- A call that was left with a number, and another one that goes on from there: what the watch was told in both.
-use Rattle.std.proofs.Common.{◌≡◌, inl, inr, ℕ, ℤ, zero, suc, ◌≤◌, max, List, [], ◌∷◌, ◌++◌, length, take, drop, Bool, true, false, refl, sym, ap, ◌∙◌, subst, arith}
+use Rattle.std.proofs.Common.{◌≡◌, ◌⊎◌, ⊎_elim, inl, inr, ℕ, ℤ, zero, suc, ◌<◌, ◌≤◌, max, List, [], ◌∷◌, ◌++◌, length, take, drop, Bool, true, false, refl, sym, ap, ◌∙◌, subst, arith}
 use Rattle.std.proofs.lemmas.List.{append-nil}
 use Rattle.nz_spec.specs.Vectors.{Vector}
 use Rattle.nz_spec.specs.Systems.{System, IsSystem, IsMember}
@@ -14,7 +14,8 @@ use Rattle.nz_input.specs.declared.kind.Mode.TheVariants.{Primal, Dual}
 use Rattle.nz_solve.specs.declared.refusal.SolveRefusal.{SolveRefusal}
 use Rattle.nz_solve.specs.declared.refusal.InnerRefusal.{InnerRefusal}
 use Rattle.nz_solve.specs.declared.refusal.InnerRefusal.TheVariants as inner
-use Rattle.nz_solve.specs.Solutions.{AreToldOf, WasToldSome, LeavesWith, IsCrowd, IsStageCrowd, half, IsSolveRefusal, IsInnerRefusal}
+use Rattle.nz_solve.specs.Solutions.{AreToldOf, AreNotCrowded, WasToldSome, LeavesWith, IsCrowd, half, IsSolveRefusal, IsInnerRefusal}
+use Rattle.nz_frame.specs.DualCrowds.{IsDualCrowd}
 use Rattle.nz_solve.specs.Parts.{IsOuterRefusal}
 use Rattle.nz_solve.proofs.ToldLemmas.{some_left}
 
@@ -41,28 +42,31 @@ joined xs (suc n) zero = append-nil (take (suc n) xs) ∙ ap (λ (m : ℕ). take
 joined [] (suc n) (suc p) = sym (take_none (max (suc n) (suc p)))
 joined (x ∷ xs) (suc n) (suc p) = ap (λ (ys : List Pair). x ∷ ys) (joined xs n p) ∙ ap (λ (m : ℕ). take m (x ∷ xs)) (sym (max_suc n p))
 
-module _ (mode : Mode) (s : System) (is : IsSystem s) (n : ℕ) (a b : Watched) (first : LeavesWith mode s 0 n a b) where
+below_or : (i k : ℕ) → (i < k) ⊎ (k ≤ i)
+below_or i k = grind arith
+
+module _ (mode : Mode) (s : System) (is : IsSystem s) (limit n : ℕ) (a b : Watched) (first : LeavesWith mode s limit 0 n a b) where
   -- in both calls
   pub both : (c : Watched) (p : ℕ) (stopped : Bool) (stages : List Pair) → AreToldOf mode s stages → WasTold b c (drop n (take p stages)) stopped → WasTold a c (take (max n p) stages) stopped
   both c p stopped stages are v = by first
     where
-      by : LeavesWith mode s 0 n a b → WasTold a c (take (max n p) stages) stopped
+      by : LeavesWith mode s limit 0 n a b → WasTold a c (take (max n p) stages) stopped
       by (inl f) = subst (λ (ps : List Pair). WasTold a c ps stopped) (sym (ap (λ (m : ℕ). drop m (take p stages)) (sym f.0)) ∙ ap (λ (m : ℕ). take m stages) (let z = f.0 in let e : p ≡ max n p = omega (arith, z) in e)) (was_told_more a b c [] (drop n (take p stages)) stopped f.1 v)
       by (inr l) =
-          let e : l.passed ≡ n = (let g = l.is_greater in omega (arith, g)) in
-          let same = stages_once mode s is l.telling.stages stages l.telling.are_stages are in
-          let t : WasTold a b (take n stages) false = subst (λ (ps : List Pair). WasTold a b ps false) (ap (λ (m : ℕ). take m l.telling.stages) e ∙ ap (take n) same) l.telling.was_told in
+          let e : l.left.passed ≡ n = (let g = l.left.is_greater in omega (arith, g)) in
+          let same = stages_once mode s is l.left.telling.stages stages l.left.telling.are_stages are in
+          let t : WasTold a b (take n stages) false = subst (λ (ps : List Pair). WasTold a b ps false) (ap (λ (m : ℕ). take m l.left.telling.stages) e ∙ ap (take n) same) l.left.telling.was_told in
           subst (λ (ps : List Pair). WasTold a c ps stopped) (joined stages n p) (was_told_more a b c (take n stages) (drop n (take p stages)) stopped t v)
 
   pub number_within : (stages : List Pair) → AreToldOf mode s stages → n ≤ length stages
   number_within stages are = by first
     where
-      by : LeavesWith mode s 0 n a b → n ≤ length stages
+      by : LeavesWith mode s limit 0 n a b → n ≤ length stages
       by (inl f) = let z = f.0 in omega (arith, z)
       by (inr l) =
-          let g = l.is_greater in
-          let w = l.telling.within in
-          let e = ap length (stages_once mode s is l.telling.stages stages l.telling.are_stages are) in
+          let g = l.left.is_greater in
+          let w = l.left.telling.within in
+          let e = ap length (stages_once mode s is l.left.telling.stages stages l.left.telling.are_stages are) in
           omega (arith, g, w, e)
 
   abbrev pub again : (c : Watched) (p m : ℕ) (stopped : Bool) → m ≡ max n p → HasPassed (AreToldOf mode s) n p b c stopped → HasPassed (AreToldOf mode s) 0 m a c stopped
@@ -91,49 +95,58 @@ module _ (mode : Mode) (s : System) (is : IsSystem s) (n : ℕ) (a b : Watched) 
   again_some : (c : Watched) → WasToldSome mode s n b c → WasToldSome mode s 0 a c
   again_some c (inl v) = by first
     where
-      by : LeavesWith mode s 0 n a b → WasToldSome mode s 0 a c
+      by : LeavesWith mode s limit 0 n a b → WasToldSome mode s 0 a c
       by (inl f) = inl (was_told_more a b c [] [] false f.1 v)
-      by (inr l) = inr (l.passed, record { stages = l.telling.stages; are_stages = l.telling.are_stages; within = l.telling.within; was_told = subst (λ (ps : List Pair). WasTold a c ps false) (append-nil (take l.passed l.telling.stages)) (was_told_more a b c (take l.passed l.telling.stages) [] false l.telling.was_told v) })
+      by (inr l) = inr (l.left.passed, record { stages = l.left.telling.stages; are_stages = l.left.telling.are_stages; within = l.left.telling.within; was_told = subst (λ (ps : List Pair). WasTold a c ps false) (append-nil (take l.left.passed l.left.telling.stages)) (was_told_more a b c (take l.left.passed l.left.telling.stages) [] false l.left.telling.was_told v) })
   again_some c (inr k) = inr (max n k.0, again c k.0 (max n k.0) false refl k.1)
 
   -- where there is a line nothing is told
   again_none : (c : Watched) (v : Vector) → IsLeastLine (IsMember s) v → WasTold b c [] false → WasTold a c [] false
   again_none c v line w = by first
     where
-      by : LeavesWith mode s 0 n a b → WasTold a c [] false
+      by : LeavesWith mode s limit 0 n a b → WasTold a c [] false
       by (inl f) = was_told_more a b c [] [] false f.1 w
-      by (inr l) = of_stages l.telling.stages l.telling.are_stages l.telling.was_told
+      by (inr l) = of_stages l.left.telling.stages l.left.telling.are_stages l.left.telling.was_told
         where
-          of_stages : (stages : List Pair) → AreToldOf mode s stages → WasTold a b (take l.passed stages) false → WasTold a c [] false
-          of_stages stages (inl none) t = was_told_more a b c [] [] false (subst (λ (ps : List Pair). WasTold a b ps false) (ap (take l.passed) none.2 ∙ take_none l.passed) t) w
+          of_stages : (stages : List Pair) → AreToldOf mode s stages → WasTold a b (take l.left.passed stages) false → WasTold a c [] false
+          of_stages stages (inl none) t = was_told_more a b c [] [] false (subst (λ (ps : List Pair). WasTold a b ps false) (ap (take l.left.passed) none.2 ∙ take_none l.left.passed) t) w
           of_stages stages (inr some) t = absurd (some.0 v line.line)
 
-  again_crowd : (c : Watched) (limit : ℕ) → IsCrowd mode s limit n b c → IsCrowd mode s limit 0 a c
-  again_crowd c limit k = by mode refl k
+  -- a crowd comes at no stage that the first call passed
+  not_before : mode ≡ Dual → (earlier : ℕ) → IsDualCrowd s limit earlier → earlier ≡ max n earlier
+  not_before e earlier crowd = by first
+    where
+      by : LeavesWith mode s limit 0 n a b → earlier ≡ max n earlier
+      by (inl f) = let z = f.0 in omega (arith, z)
+      by (inr l) = ⊎_elim
+          (λ (m : earlier < l.left.passed). absurd (subst (λ (m : Mode). AreNotCrowded m s limit l.left.passed) e l.not_crowded earlier m crowd))
+          (λ (m : l.left.passed ≤ earlier). let g = l.left.is_greater in omega (arith, g, m))
+          (below_or earlier l.left.passed)
+
+  again_crowd : (c : Watched) → IsCrowd mode s limit n b c → IsCrowd mode s limit 0 a c
+  again_crowd c k = by mode refl k
     where
       by : (m : Mode) → mode ≡ m → IsCrowd mode s limit n b c → IsCrowd mode s limit 0 a c
       by Primal e k =
           let k' = subst (λ (m : Mode). IsCrowd m s limit n b c) e k in
           subst (λ (m : Mode). IsCrowd m s limit 0 a c) (sym e) (k'.0, k'.1, subst (λ (m : Mode). HasPassedAll (AreToldOf m s) 0 a c) e (again_all c (subst (λ (m : Mode). HasPassedAll (AreToldOf m s) n b c) (sym e) k'.2)))
       by Dual e k =
-          let k' : IsStageCrowd s limit n b c = subst (λ (m : Mode). IsCrowd m s limit n b c) e k in
-          subst (λ (m : Mode). IsCrowd m s limit 0 a c) (sym e) (record {
-            earlier = k'.earlier;
-            crowd = k'.crowd;
-            passed = max n k'.passed;
-            told_those = (let l = k'.told_those in omega (arith, l));
-            telling = subst (λ (m : Mode). HasPassed (AreToldOf m s) 0 (max n k'.passed) a c false) e (again c k'.passed (max n k'.passed) false refl (subst (λ (m : Mode). HasPassed (AreToldOf m s) n k'.passed b c false) (sym e) k'.telling));
-          })
+          let k' = subst (λ (m : Mode). IsCrowd m s limit n b c) e k in
+          subst (λ (m : Mode). IsCrowd m s limit 0 a c) (sym e) (
+            k'.0,
+            k'.1,
+            subst (λ (m : Mode). HasPassed (AreToldOf m s) 0 k'.0 a c false) e (again c k'.0 k'.0 false (not_before e k'.0 k'.1) (subst (λ (m : Mode). HasPassed (AreToldOf m s) n k'.0 b c false) (sym e) k'.2)),
+          )
 
   -- a refusal of the second call refuses the whole
-  pub again_refused : (limit : ℕ) (c : Watched) (r : InnerRefusal) (o : SolveRefusal) → IsInnerRefusal mode s half limit n b c r → IsOuterRefusal r o → IsSolveRefusal mode s limit a c o
-  again_refused limit c (inner.Line v) o h e = subst (IsSolveRefusal mode s limit a c) (sym e) (h.0, again_none c v h.0 h.1)
-  again_refused limit c (inner.Grade x) o h e = subst (IsSolveRefusal mode s limit a c) (sym e) (h.0, h.1, again_all c h.2)
-  again_refused limit c (inner.Range number) o h e = subst (IsSolveRefusal mode s limit a c) (sym e) (h.0, again_some c (some_left mode s n number b c h.1))
-  again_refused limit c inner.TooMany o h e = subst (IsSolveRefusal mode s limit a c) (sym e) (again_crowd c limit h)
-  again_refused limit c (inner.Stopped stage) o h e = subst (IsSolveRefusal mode s limit a c) (sym e) (again_stopped c stage h)
-  again_refused limit c inner.NoMemory o h e = subst (IsSolveRefusal mode s limit a c) (sym e) (again_some c h)
+  pub again_refused : (c : Watched) (r : InnerRefusal) (o : SolveRefusal) → IsInnerRefusal mode s half limit n b c r → IsOuterRefusal r o → IsSolveRefusal mode s limit a c o
+  again_refused c (inner.Line v) o h e = subst (IsSolveRefusal mode s limit a c) (sym e) (h.0, again_none c v h.0 h.1)
+  again_refused c (inner.Grade x) o h e = subst (IsSolveRefusal mode s limit a c) (sym e) (h.0, h.1, again_all c h.2)
+  again_refused c (inner.Range number) o h e = subst (IsSolveRefusal mode s limit a c) (sym e) (h.0, again_some c (some_left mode s limit n number b c h.1))
+  again_refused c inner.TooMany o h e = subst (IsSolveRefusal mode s limit a c) (sym e) (again_crowd c h)
+  again_refused c (inner.Stopped stage) o h e = subst (IsSolveRefusal mode s limit a c) (sym e) (again_stopped c stage h)
+  again_refused c inner.NoMemory o h e = subst (IsSolveRefusal mode s limit a c) (sym e) (again_some c h)
 
 -- the number of a call that was left for a number too large
-pub range_left : (mode : Mode) (s : System) (h : ℤ) (limit told : ℕ) (a b : Watched) (r : InnerRefusal) (n : ℕ) → r ≡ inner.Range n → IsInnerRefusal mode s h limit told a b r → LeavesWith mode s told n a b
+pub range_left : (mode : Mode) (s : System) (h : ℤ) (limit told : ℕ) (a b : Watched) (r : InnerRefusal) (n : ℕ) → r ≡ inner.Range n → IsInnerRefusal mode s h limit told a b r → LeavesWith mode s limit told n a b
 range_left mode s h limit told a b r n e k = (subst (IsInnerRefusal mode s h limit told a b) e k).1

@@ -1,5 +1,5 @@
 -- What the dual run finds in a frame, as the elements of the system and as what a watch is told of it.
-use Rattle.std.proofs.Common.{◌≡◌, inl, inr, ℕ, ℤ, suc, ◌+◌, ◌-◌, max, List, [], length, map, Option, false, sym, ap, ap₂, ◌∙◌, subst, arith}
+use Rattle.std.proofs.Common.{◌≡◌, inl, inr, ℕ, ℤ, zero, suc, ◌+◌, ◌-◌, max, List, [], length, map, Option, false, refl, sym, ap, ap₂, ◌∙◌, subst, arith}
 use Rattle.std.specs.List.{AllByRecursion as Each}
 use Rattle.std.proofs.lemmas.List.{length-append}
 use Rattle.std.proofs.lemmas.List.FromFn.{length-range_with_len}
@@ -30,9 +30,11 @@ use Rattle.nz_watch.specs.Watching.{Pair}
 use Rattle.nz_watch.specs.Telling.{Watched, HasPassedAll, HasLeft}
 use Rattle.nz_input.specs.declared.kind.Mode.{Mode}
 use Rattle.nz_input.specs.declared.kind.Mode.TheVariants.{Primal, Dual}
-use Rattle.nz_dual.specs.Runs.{IsRunRefusal}
+use Rattle.nz_dual.specs.Runs.{NoneIsCrowded, IsRunRefusal}
+use Rattle.nz_dual.specs.Runs as runs
 use Rattle.nz_dual.specs.Refusals.{IsRowOf, IsStageOf}
 use Rattle.nz_primal.proofs.GeneratorLemmas.{pointed_of_simplex}
+use Rattle.nz_dual.proofs.OrderLemmas.{others_exist}
 use Rattle.nz_dual.proofs.WholeLemmas.{full_rank}
 use Rattle.nz_primal.proofs.RunLemmas.{passed_where, all_where, stopped_where, separates_length, zipped_length}
 use Rattle.nz_frame.specs.DualCrowds.{IsRunCrowd, IsDualCrowd}
@@ -43,8 +45,9 @@ use Rattle.nz_frame.proofs.SystemStages.{dual_told, run_crowd}
 use Rattle.nz_vec.specs.declared.answers.Work.{Work}
 use Rattle.nz_vec.specs.declared.answers.Work.TheVariants as work
 use Rattle.nz_solve.specs.declared.refusal.InnerRefusal.{InnerRefusal}
-use Rattle.nz_solve.specs.Solutions.{AreToldOf, IsInnerRefusal}
+use Rattle.nz_solve.specs.Solutions.{AreToldOf, AreNotCrowded, HasLeftWithin, IsInnerRefusal}
 use Rattle.nz_solve.specs.Parts.{IsSameRefusal, IsSorted, LacksSomeDegree}
+use Rattle.nz_solve.proofs.CrowdsBack.{system_crowd}
 use Rattle.nz_solve.proofs.ToldLemmas.{left_of_all, left_where}
 use Rattle.nz_solve.proofs.FrameLists.{dual_listed, rays_listed}
 use Rattle.nz_solve.proofs.RangeLemmas.{dual_above, list_refused, extreme_refused, start_refused, degree_refused, extreme_named}
@@ -56,6 +59,11 @@ crowd_of half limit w chosen rays others passed (inr h) = subst (IsRunCrowd w ch
   where
     refl_length : (xs : List Vector) → length xs ≡ length xs
     refl_length xs = omega arith
+
+-- and a stage with more than the limit is one of the run that has too many
+crowd_from : (half : ℤ) (limit w : ℕ) (chosen rays others : List Vector) (passed : ℕ) → IsRunCrowd w chosen rays others limit passed → IsRowOf half limit w chosen rays others passed work.TooMany
+crowd_from half limit w chosen rays others zero m = inl (refl, m)
+crowd_from half limit w chosen rays others (suc passed) m = inr (record { earlier = m.earlier; row = m.row; later = m.later; whole = m.whole; number = (let e = m.place in omega (arith, e)); refused = m.more })
 
 module _ (s : System) (base : Base) (pulled : List Vector) (is : IsSystem s) (fr : IsFrame s base pulled) (pt : IsPointed (length base.vectors) pulled) (told : ℕ) (before now : Watched) where
   abbrev Told : List Pair → Type 0
@@ -82,18 +90,30 @@ module _ (s : System) (base : Base) (pulled : List Vector) (is : IsSystem s) (fr
       (subst (λ (ps : List Vector). Separates (IsFreshRow (HasWidth (length base.vectors))) [] ps (vectors_at ps places) others) fr.there t)
       (subst (λ (ps : List Vector). IsRunCrowd (length base.vectors) (vectors_at ps places) rays others limit passed) fr.there m)
 
+  -- a stage that is not crowded in coordinates is not crowded in the system
+  pub never_crowded : (half : ℤ) (limit passed : ℕ) (places : List ℕ) (rays : List Vector) → IsSimplexOf (length base.vectors) pulled places rays → ¬ IsStageOf half limit (length base.vectors) pulled (vectors_at pulled places) rays passed work.TooMany → ¬ IsDualCrowd s limit passed
+  never_crowded half limit passed places rays sx f d =
+      let n = length base.vectors in
+      let o = others_exist n pulled places (frame_wide s base pulled fr) sx.first in
+      let m = subst (λ (ps : List Vector). IsRunCrowd n (vectors_at ps places) rays o.0 limit passed) (sym fr.there)
+      (system_crowd s fr.equations fr.rows base.vectors is fr.are_equations fr.are_rows fr.is_base.widths fr.is_base.independent fr.is_base.same limit passed places rays o.0
+      (subst (λ (ps : List Vector). IsSimplexOf n ps places rays) fr.there sx)
+      (subst (λ (ps : List Vector). Separates (IsFreshRow (HasWidth n)) [] ps (vectors_at ps places) o.0) fr.there o.1) d) in
+      f (o.0, (o.1, crowd_from half limit n (vectors_at pulled places) rays o.0 passed m))
+
+  pub not_crowded : (half : ℤ) (limit passed : ℕ) (places : List ℕ) (rays : List Vector) → IsSimplexOf (length base.vectors) pulled places rays → runs.AreNotCrowded (IsStageOf half limit (length base.vectors) pulled (vectors_at pulled places) rays) passed → AreNotCrowded Dual s limit passed
+  not_crowded half limit passed places rays sx h p l d = never_crowded half limit p places rays sx (h p l) d
+
   -- a refused run in coordinates refuses the system with the same refusal
   pub dual_refused : (half : ℤ) (fits : ℤ → Type 0) → HasRoom half fits → IsSwept s base → (limit : ℕ) (places : List ℕ) (rays : List Vector) → IsSimplexOf (length base.vectors) pulled places rays → length places ≡ length base.vectors → (e : Work) (result : InnerRefusal)
       → IsRunRefusal (AreStages (length base.vectors) (HasWidth (length base.vectors)) pulled) (IsStageOf half limit (length base.vectors) pulled (vectors_at pulled places) rays) told before now e → IsSameRefusal e result → IsInnerRefusal Dual s half limit told before now result
   dual_refused half fits room swept limit places rays sx n (work.Range number) result h i = subst (IsInnerRefusal Dual s half limit told before now) (sym i)
-      (dual_above s base pulled fr swept half fits room limit rays h.1.0 places (positive_of_pointed (length base.vectors) pulled (IsInRows (length base.vectors) pulled) pt (λ v m. m)) sx n h.1.1.0 h.0.passed h.1.1.1, inr (left_told number h.0))
-  dual_refused half fits room swept limit places rays sx n work.TooMany result h i = subst (IsInnerRefusal Dual s half limit told before now) (sym i) (record {
-    earlier = h.0;
-    crowd = crowd_told limit h.0 places rays h.2.0 sx h.2.1.0 (crowd_of half limit (length base.vectors) (vectors_at pulled places) rays h.2.0 h.0 h.2.1.1);
-    passed = h.0;
-    told_those = omega (arith);
-    telling = passed_where Told (AreToldOf Dual s) to told h.0 before now false h.1;
-  })
+      (dual_above s base pulled fr swept half fits room limit rays h.1.0 places (positive_of_pointed (length base.vectors) pulled (IsInRows (length base.vectors) pulled) pt (λ v m. m)) sx n h.1.1.0 h.0.passed h.1.1.1, inr (record { left = record { passed = h.0.passed; telling = passed_where Told (AreToldOf Dual s) to told h.0.passed before now false h.0.telling; is_greater = h.0.is_greater }; not_crowded = not_crowded half limit h.0.passed places rays sx h.2 }))
+  dual_refused half fits room swept limit places rays sx n work.TooMany result h i = subst (IsInnerRefusal Dual s half limit told before now) (sym i) (
+    h.0,
+    crowd_told limit h.0 places rays h.2.0 sx h.2.1.0 (crowd_of half limit (length base.vectors) (vectors_at pulled places) rays h.2.0 h.0 h.2.1.1),
+    passed_where Told (AreToldOf Dual s) to told h.0 before now false h.1,
+  )
   dual_refused half fits room swept limit places rays sx n (work.Stopped stage) result h i = subst (IsInnerRefusal Dual s half limit told before now) (sym i) (stopped_where Told (AreToldOf Dual s) to told stage before now h)
   dual_refused half fits room swept limit places rays sx n work.NoMemory result h i = subst (IsInnerRefusal Dual s half limit told before now) (sym i) (inr (h.0, passed_where Told (AreToldOf Dual s) to told h.0 before now false h.1))
 
@@ -140,8 +160,12 @@ module _ (s : System) (base : Base) (pulled : List Vector) (is : IsSystem s) (fr
       let r : p.rank ≡ length places = HasRank-unique (length places) (HasWidth (length places)) p.rank (length places) (λ x l. l) p.has_rank (full_rank pulled rays places simplex_at) in
       z ∙ n ∙ ap₂ (λ m k. m + 1 - k) o r
 
-  pub left_at : (told number : ℕ) (a c : Watched) → HasPassedAll (AreStages (length places) (HasWidth (length places)) pulled) told a c → number ≡ max told (length pulled + 1 - length places) → HasLeft (AreToldOf Dual s) told number a c
-  left_at told number a c h e = left_told s base pulled is fr pt told a c number (subst (λ (n : ℕ). HasLeft (AreStages n (HasWidth n) pulled) told number a c) (sym same_width) (left_of_all (AreStages (length places) (HasWidth (length places)) pulled) told number (length pulled + 1 - length places) a c h counted e))
+  pub left_at : (half : ℤ) (limit told number : ℕ) (a c : Watched) → HasPassedAll (AreStages (length places) (HasWidth (length places)) pulled) told a c → number ≡ max told (length pulled + 1 - length places)
+      → NoneIsCrowded (IsStageOf half limit (length places) pulled (vectors_at pulled places) rays) → HasLeftWithin Dual s limit told number a c
+  left_at half limit told number a c h e none = record {
+    left = left_told s base pulled is fr pt told a c number (subst (λ (n : ℕ). HasLeft (AreStages n (HasWidth n) pulled) told number a c) (sym same_width) (left_of_all (AreStages (length places) (HasWidth (length places)) pulled) told number (length pulled + 1 - length places) a c h counted e));
+    not_crowded = λ p l d. never_crowded s base pulled is fr pt told a c half limit p places rays sx (subst (λ (n : ℕ). ¬ IsStageOf half limit n pulled (vectors_at pulled places) rays p work.TooMany) (sym same_width) (none p)) d;
+  }
 
   pub refused_at : (half : ℤ) (fits : ℤ → Type 0) → HasRoom half fits → IsSwept s base → (limit told : ℕ) (a c : Watched) (e : Work) (result : InnerRefusal) → IsRunRefusal (AreStages (length places) (HasWidth (length places)) pulled) (IsStageOf half limit (length places) pulled (vectors_at pulled places) rays) told a c e → IsSameRefusal e result → IsInnerRefusal Dual s half limit told a c result
   refused_at half fits room swept limit told a c e result h i = dual_refused s base pulled is fr pt told a c half fits room swept limit places rays sx (sym same_width) e result (subst (λ (n : ℕ). IsRunRefusal (AreStages n (HasWidth n) pulled) (IsStageOf half limit n pulled (vectors_at pulled places) rays) told a c e) (sym same_width) h) i

@@ -5,6 +5,7 @@ mod AgainLemmas
 mod RangeLemmas
 mod LineRefusals
 mod PrimalLemmas
+mod CrowdsBack
 mod DualLemmas
 mod ListLemmas
 mod ReplyLaws

@@ -36,7 +36,7 @@ use Rattle.nz_frame.specs.Frames.{IsFrame, order_forms, vector_at}
 use Rattle.nz_frame.proofs.FrameLemmas.{frame_base, frame_wide, frame_coordinates, frame_positive}
 use Rattle.nz_frame.proofs.OrderLemmas.{order_wide, order_only_zero}
 use Rattle.nz_solve.specs.declared.refusal.InnerRefusal.{InnerRefusal}
-use Rattle.nz_solve.specs.Solutions.{AreToldOf, WasToldSome, LeavesWith, IsInnerRefusal}
+use Rattle.nz_solve.specs.Solutions.{AreToldOf, WasToldSome, HasLeftWithin, LeavesWith, IsInnerRefusal}
 use Rattle.nz_solve.proofs.ToldLemmas.{left_of_all, left_where}
 use Rattle.nz_solve.specs.Parts.{AreAllElements, IsSameRefusal}
 use Rattle.nz_solve.proofs.FrameLists.{primal_listed, generators_listed}
@@ -132,14 +132,14 @@ module _ (s : System) (base : Base) (pulled : List Vector) (is : IsSystem s) (fr
       (λ p. inr (passed, passed_where (ArePlacings (length base.vectors) p.0) (AreToldOf Primal s) (told_back p.0 p.1) told passed a c false p.2))
       h
 
-  left_back : (told passed number : ℕ) (a c : Watched) → HasPassedFirst (length base.vectors) pulled (order_forms s.width base.vectors s.grading) told passed a c → number ≡ max told passed → LeavesWith Primal s told number a c
-  left_back told passed number a c h e = ⊎_elim
+  left_back : (limit told passed number : ℕ) (a c : Watched) → HasPassedFirst (length base.vectors) pulled (order_forms s.width base.vectors s.grading) told passed a c → number ≡ max told passed → LeavesWith Primal s limit told number a c
+  left_back limit told passed number a c h e = ⊎_elim
       (λ p. inl (let z = p.0 in omega (arith, e, z), p.1))
-      (λ p. inr (record { passed = passed; telling = passed_where (ArePlacings (length base.vectors) p.0) (AreToldOf Primal s) (told_back p.0 p.1) told passed a c false p.2; is_greater = e }))
+      (λ p. inr (record { left = record { passed = passed; telling = passed_where (ArePlacings (length base.vectors) p.0) (AreToldOf Primal s) (told_back p.0 p.1) told passed a c false p.2; is_greater = e }; not_crowded = tt }))
       h
 
   pub primal_refused : (half : ℤ) (limit told : ℕ) (a c : Watched) (e : Work) (result : InnerRefusal) → IsPrimalRefusal (length base.vectors) pulled (order_forms s.width base.vectors s.grading) limit told a c e → WhereRange (IsPrimalReachAbove s half) e → IsSameRefusal e result → IsInnerRefusal Primal s half limit told a c result
-  primal_refused half limit told a c (work.Range number) result h r i = subst (IsInnerRefusal Primal s half limit told a c) (sym i) (r, left_back told h.0 number a c h.1 h.2)
+  primal_refused half limit told a c (work.Range number) result h r i = subst (IsInnerRefusal Primal s half limit told a c) (sym i) (r, left_back limit told h.0 number a c h.1 h.2)
   primal_refused half limit told a c work.TooMany result h r i = subst (IsInnerRefusal Primal s half limit told a c) (sym i) (let cr = crowd_back limit h.0 h.1 h.3 in (cr.0, cr.1, all_told h.0 told a c h.1 h.2))
   primal_refused half limit told a c (work.Stopped stage) result h r i = subst (IsInnerRefusal Primal s half limit told a c) (sym i) (stopped_where (ArePlacings (length base.vectors) h.0) (AreToldOf Primal s) (told_back h.0 h.1) told stage a c h.2)
   primal_refused half limit told a c work.NoMemory result h r i = subst (IsInnerRefusal Primal s half limit told a c) (sym i) (some_back told h.0 a c h.1)
@@ -182,8 +182,8 @@ module _ (s : System) (base : Base) (pulled : List Vector) (is : IsSystem s) (fr
   pub told_at : (list extreme : List Vector) (simplices : List (List ℕ)) (forms : List (List Vector)) (told : ℕ) (a c : Watched) → ArePrimalLists (length places) pulled order list extreme simplices forms × HasPassedAll (ArePlacings (length places) extreme) told a c → HasPassedAll (AreToldOf Primal s) told a c
   told_at list extreme simplices forms told a c h = all_told s base pulled is fr pt extreme told a c (lists_at list extreme simplices forms h.0).generators (subst (λ (n : ℕ). HasPassedAll (ArePlacings n extreme) told a c) (sym same_width) h.1)
 
-  pub left_at : (list extreme : List Vector) (simplices : List (List ℕ)) (forms : List (List Vector)) (told number count : ℕ) (a c : Watched) → ArePrimalLists (length places) pulled order list extreme simplices forms × HasPassedAll (ArePlacings (length places) extreme) told a c → HasStageCount (length places) extreme count → number ≡ max told count → HasLeft (AreToldOf Primal s) told number a c
-  left_at list extreme simplices forms told number count a c h law e = left_told s base pulled is fr pt extreme told number a c (lists_at list extreme simplices forms h.0).generators (subst (λ (n : ℕ). HasLeft (ArePlacings n extreme) told number a c) (sym same_width) (left_of_all (ArePlacings (length places) extreme) told number count a c h.1 law e))
+  pub left_at : (list extreme : List Vector) (simplices : List (List ℕ)) (forms : List (List Vector)) (limit told number count : ℕ) (a c : Watched) → ArePrimalLists (length places) pulled order list extreme simplices forms × HasPassedAll (ArePlacings (length places) extreme) told a c → HasStageCount (length places) extreme count → number ≡ max told count → HasLeftWithin Primal s limit told number a c
+  left_at list extreme simplices forms limit told number count a c h law e = record { left = left_told s base pulled is fr pt extreme told number a c (lists_at list extreme simplices forms h.0).generators (subst (λ (n : ℕ). HasLeft (ArePlacings n extreme) told number a c) (sym same_width) (left_of_all (ArePlacings (length places) extreme) told number count a c h.1 law e)); not_crowded = tt }
 
   pub refused_at : (half : ℤ) (limit told : ℕ) (a c : Watched) (e : Work) (result : InnerRefusal) → IsPrimalRefusal (length places) pulled order limit told a c e → WhereRange (IsPrimalReachAbove s half) e → IsSameRefusal e result → IsInnerRefusal Primal s half limit told a c result
   refused_at half limit told a c e result h r i = primal_refused s base pulled is fr pt half limit told a c e result (subst (λ (n : ℕ). IsPrimalRefusal n pulled (order_forms s.width base.vectors s.grading) limit told a c e) (sym same_width) (subst (λ (o : List Vector). IsPrimalRefusal (length places) pulled o limit told a c e) eo h)) r i

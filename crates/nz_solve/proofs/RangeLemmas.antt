@@ -31,7 +31,7 @@ use Rattle.nz_vec.specs.declared.answers.Work.TheVariants as work
 use Rattle.nz_pointed.specs.Pointed.{IsSimplexOf, IsLineOf, IsTooLarge}
 use Rattle.nz_sweep.specs.Bases.{Base, CombinationSumsFit, ValueSumsFit}
 use Rattle.nz_sweep.specs.Lists.{LacksPull, LacksVector}
-use Rattle.nz_watch.specs.Telling.{Watched, HasPassedAll, HasLeft}
+use Rattle.nz_watch.specs.Telling.{Watched, HasPassedAll}
 use Rattle.nz_input.specs.declared.kind.Mode.{Mode}
 use Rattle.nz_input.specs.declared.kind.Mode.TheVariants.{Primal, Dual}
 use Rattle.nz_degree.specs.Degrees.{LacksDegree}
@@ -46,14 +46,14 @@ use Rattle.nz_frame.specs.Frames.{IsFrame, order_forms, vector_at, LacksMultiple
 use Rattle.nz_solve.specs.declared.refusal.SolveRefusal.{SolveRefusal}
 use Rattle.nz_solve.specs.declared.refusal.SolveRefusal.TheVariants.{Line, Grade, Range, TooMany, Stopped, NoMemory}
 use Rattle.nz_solve.specs.declared.refusal.InnerRefusal.{InnerRefusal}
-use Rattle.nz_solve.specs.Solutions.{AreToldOf, LeavesWith, IsReachAbove, IsInnerRefusal}
+use Rattle.nz_solve.specs.Solutions.{AreToldOf, HasLeftWithin, LeavesWith, IsReachAbove, IsInnerRefusal}
 use Rattle.nz_solve.specs.Parts.{IsCountedRefusal, IsToldRefusal, IsLineRefusal, IsOutcomeRefusal}
 use Rattle.nz_solve.proofs.ToldLemmas.{some_left}
 
 -- ---- a call that only reckons
-pub reckon_refused : (mode : Mode) (s : System) (bound : ℤ) (limit told number : ℕ) (before now : Watched) → LeavesWith mode s told number before now → (e : Num) (r : InnerRefusal) → (e ≡ num.Range → IsReachAbove mode s bound) → IsCountedRefusal number e r → IsInnerRefusal mode s bound limit told before now r
+pub reckon_refused : (mode : Mode) (s : System) (bound : ℤ) (limit told number : ℕ) (before now : Watched) → LeavesWith mode s limit told number before now → (e : Num) (r : InnerRefusal) → (e ≡ num.Range → IsReachAbove mode s bound) → IsCountedRefusal number e r → IsInnerRefusal mode s bound limit told before now r
 reckon_refused mode s bound limit told number before now t num.Range r f i = subst (IsInnerRefusal mode s bound limit told before now) (sym i) (f refl, t)
-reckon_refused mode s bound limit told number before now t num.NoMemory r f i = subst (IsInnerRefusal mode s bound limit told before now) (sym i) (some_left mode s told number before now t)
+reckon_refused mode s bound limit told number before now t num.NoMemory r f i = subst (IsInnerRefusal mode s bound limit told before now) (sym i) (some_left mode s limit told number before now t)
 
 -- a number in the coordinates of the file is the cause in both modes
 pub own_reach : (mode : Mode) (s : System) (bound : ℤ) → HasOwnAbove s bound → IsReachAbove mode s bound
@@ -65,7 +65,7 @@ pub refused_by : (mode by : Mode) (s : System) (bound : ℤ) (limit told : ℕ) 
 refused_by mode by s bound limit told before now r e h = subst (λ (m : Mode). IsInnerRefusal m s bound limit told before now r) (sym e) h
 
 -- nothing more is told after the elements are found
-pub outcome_refused : (mode : Mode) (s : System) (bound : ℤ) (limit told number : ℕ) (before now : Watched) → IsPositive (IsMember s) → HasPassedAll (AreToldOf mode s) told before now → HasLeft (AreToldOf mode s) told number before now → (r : SolveRefusal) (i : InnerRefusal) → IsOutcomeRefusal bound s r → IsToldRefusal number r i → IsInnerRefusal mode s bound limit told before now i
+pub outcome_refused : (mode : Mode) (s : System) (bound : ℤ) (limit told number : ℕ) (before now : Watched) → IsPositive (IsMember s) → HasPassedAll (AreToldOf mode s) told before now → HasLeftWithin mode s limit told number before now → (r : SolveRefusal) (i : InnerRefusal) → IsOutcomeRefusal bound s r → IsToldRefusal number r i → IsInnerRefusal mode s bound limit told before now i
 outcome_refused mode s bound limit told number before now p t l (Line v) i h e = absurd h
 outcome_refused mode s bound limit told number before now p t l (Grade x) i h e = subst (IsInnerRefusal mode s bound limit told before now) (sym e) (p, h, t)
 outcome_refused mode s bound limit told number before now p t l Range i h e = subst (IsInnerRefusal mode s bound limit told before now) (sym e) (own_reach mode s bound h, inr l)

@@ -1,5 +1,5 @@
 -- What a solved system answers, in both modes, and why there is no outcome.
-use Rattle.std.specs.Prelude.{◌≡◌, ◌⊎◌, ◌≤◌, ◌^◌, ◌&&◌, ◌||◌, is_some, ℕ, ℤ, pos, Bool, false, List, []}
+use Rattle.std.specs.Prelude.{◌≡◌, ◌⊎◌, ⊤, ◌<◌, ◌^◌, ◌&&◌, ◌||◌, is_some, ℕ, ℤ, pos, Bool, false, List, []}
 use Rattle.nz_spec.specs.Systems.{System, IsMember, file_width}
 use Rattle.nz_spec.specs.Monoids.{IsPositive, IsLeastLine}
 use Rattle.nz_spec.specs.Elements.{IsHilbertBasis, AreModuleGenerators, AreDegreeOne, AreRays, AreVertices, IsSupportDescription, IsCoverOf, IsFirstNotPositive}
@@ -60,22 +60,24 @@ AreToldOf mode s pairs = AreTold (AreStagesOf mode) s pairs
 abbrev pub WasToldSome : Mode → System → ℕ → Watched → Watched → Type 0
 WasToldSome mode s told before now = WasTold before now [] false ⊎ ((passed : ℕ) × HasPassed (AreToldOf mode s) told passed before now false)
 
--- the same, and the number is that of the first stages that the watch was told, before the call or in it
-abbrev pub LeavesWith : Mode → System → (told number : ℕ) → Watched → Watched → Type 0
-LeavesWith mode s told number before now = ((number ≡ told) × WasTold before now [] false) ⊎ HasLeft (AreToldOf mode s) told number before now
+-- in dual mode none of the first stages, so many, has to hold more than the limit
+abbrev pub AreNotCrowded : Mode → System → (limit passed : ℕ) → Type 0
+AreNotCrowded Primal s limit passed = ⊤
+AreNotCrowded Dual s limit passed = (p : ℕ) → p < passed → ¬ IsDualCrowd s limit p
 
--- a stage, or the first one, has to hold more than the limit, and the watch was told the stages before it
-pub record IsStageCrowd (s : System) (limit told : ℕ) (before now : Watched) : Type 0 where
-  pub earlier : ℕ
-  pub crowd : IsDualCrowd s limit earlier
-  pub passed : ℕ
-  pub told_those : earlier ≤ passed
-  pub telling : HasPassed (AreToldOf Dual s) told passed before now false
+-- left with this number after stages that were passed, none of which has to hold more than the limit in dual mode
+pub record HasLeftWithin (mode : Mode) (s : System) (limit told number : ℕ) (before now : Watched) : Type 0 where
+  pub left : HasLeft (AreToldOf mode s) told number before now
+  pub not_crowded : AreNotCrowded mode s limit left.passed
+
+-- nothing was told and the number is as before, or it is that of the first stages that the watch was told, before the call or in it
+abbrev pub LeavesWith : Mode → System → (limit told number : ℕ) → Watched → Watched → Type 0
+LeavesWith mode s limit told number before now = ((number ≡ told) × WasTold before now [] false) ⊎ HasLeftWithin mode s limit told number before now
 
 -- there is no line, and there are more vectors than the limit. In primal mode: the crowd of the primal algorithm, and the watch was told all stages. In dual mode: what the first stage has to hold, or a stage or a reversed stage, and the watch was told the stages before it.
 abbrev pub IsCrowd : Mode → System → (limit told : ℕ) → Watched → Watched → Type 0
 IsCrowd Primal s limit told before now = IsPositive (IsMember s) × IsPrimalCrowdAbove s limit × HasPassedAll (AreToldOf Primal s) told before now
-IsCrowd Dual s limit told before now = IsStageCrowd s limit told before now
+IsCrowd Dual s limit told before now = (passed : ℕ) × IsDualCrowd s limit passed × HasPassed (AreToldOf Dual s) told passed before now false
 
 -- the size up to which two numbers of a run can be multiplied, and two such products added
 abbrev pub half : ℤ
@@ -99,7 +101,7 @@ IsSolveRefusal mode s limit before now NoMemory = WasToldSome mode s 0 before no
 abbrev pub IsInnerRefusal : Mode → System → (h : ℤ) → (limit told : ℕ) → (before now : Watched) → InnerRefusal → Type 0
 IsInnerRefusal mode s h limit told before now (inner.Line v) = IsLeastLine (IsMember s) v × WasTold before now [] false
 IsInnerRefusal mode s h limit told before now (inner.Grade x) = IsPositive (IsMember s) × IsFirstNotPositive s x × HasPassedAll (AreToldOf mode s) told before now
-IsInnerRefusal mode s h limit told before now (inner.Range number) = IsReachAbove mode s h × LeavesWith mode s told number before now
+IsInnerRefusal mode s h limit told before now (inner.Range number) = IsReachAbove mode s h × LeavesWith mode s limit told number before now
 IsInnerRefusal mode s h limit told before now inner.TooMany = IsCrowd mode s limit told before now
 IsInnerRefusal mode s h limit told before now (inner.Stopped stage) = HasStopped (AreToldOf mode s) told stage before now
 IsInnerRefusal mode s h limit told before now inner.NoMemory = WasToldSome mode s told before now

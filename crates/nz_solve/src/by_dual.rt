@@ -2,12 +2,12 @@
 ghost use Rattle.std.specs.Prelude.{◌≡◌, ◌≤◌, ◌+◌, ◌-◌, max, IsTrue, length, IfOk, IfErr, MatchResult};
 ghost use Rattle.nz_spec.specs.Elements.{AreExtreme};
 ghost use Rattle.nz_pointed.specs.Pointed.{IsSimplexOf};
-ghost use Rattle.nz_watch.specs.Telling.{HasPassedAll, HasLeft};
+ghost use Rattle.nz_watch.specs.Telling.{HasPassedAll};
 ghost use Rattle.nz_measures.specs.Sweeps.{IsSwept};
 ghost use Rattle.nz_measures.specs.Reaches.{IsDualReachAbove};
 ghost use Rattle.nz_input.specs.declared.kind.Mode.TheVariants.{Dual};
 ghost use Rattle.nz_frame.specs.Frames.{IsFrame};
-ghost use Rattle.nz_solve.specs.Solutions.{AreToldOf, IsInnerRefusal};
+ghost use Rattle.nz_solve.specs.Solutions.{AreToldOf, HasLeftWithin, IsInnerRefusal};
 ghost use Rattle.nz_solve.specs.Parts.{AreElements, wants_description};
 
 use crate::elements::Elements;
@@ -40,7 +40,7 @@ pub(crate) fn elements_by_dual<T: Scalar>(
     requires simplex { IsSimplexOf (length frame.now.base.vectors) frame.now.rows simplex.now.places simplex.now.rays }
     ensures elements { MatchResult result (λ e. AreElements system.now e.list e.extreme e.simplices × HasPassedAll (AreToldOf Dual system.now.system) told_before (seen watch.old) (seen watch.new)) (λ e. IsInnerRefusal Dual system.now.system T.HALF limit told_before (seen watch.old) (seen watch.new) e) }
     ensures within { IfOk result (λ e. length e.list ≤ limit) }
-    ensures told { IfOk result (λ e. HasLeft (AreToldOf Dual system.now.system) told_before e.told (seen watch.old) (seen watch.new)) }
+    ensures told { IfOk result (λ e. HasLeftWithin Dual system.now.system limit told_before e.told (seen watch.old) (seen watch.new)) }
 {
     system.kept();
     let found = match dual(alloc, &frame.rows, simplex, limit, told_before, watch) {

@@ -5,11 +5,11 @@ ghost use Rattle.std.specs.List.{AllByRecursion as Each};
 ghost use Rattle.nz_spec.specs.Vectors.{HasWidth};
 ghost use Rattle.nz_pointed.specs.Pointed.{IsSimplexOf};
 ghost use Rattle.nz_sweep.specs.Lists.{LacksVector};
-ghost use Rattle.nz_watch.specs.Telling.{HasPassedAll, HasLeft};
+ghost use Rattle.nz_watch.specs.Telling.{HasPassedAll};
 ghost use Rattle.nz_measures.specs.Sweeps.{IsSwept};
 ghost use Rattle.nz_input.specs.declared.kind.Mode.TheVariants.{Primal};
 ghost use Rattle.nz_frame.specs.Frames.{IsFrame, vector_at};
-ghost use Rattle.nz_solve.specs.Solutions.{AreToldOf, IsInnerRefusal};
+ghost use Rattle.nz_solve.specs.Solutions.{AreToldOf, HasLeftWithin, IsInnerRefusal};
 ghost use Rattle.nz_solve.specs.Parts.{AreAllElements};
 
 use crate::elements::Elements;
@@ -38,7 +38,7 @@ pub(crate) fn elements_by_primal<T: Scalar>(
     requires simplex { IsSimplexOf (length frame.now.base.vectors) frame.now.rows simplex.now.places simplex.now.rays }
     ensures elements { MatchResult result (λ e. AreAllElements system.now.system e.list e.extreme e.simplices × HasPassedAll (AreToldOf Primal system.now.system) told_before (seen watch.old) (seen watch.new)) (λ e. IsInnerRefusal Primal system.now.system T.HALF limit told_before (seen watch.old) (seen watch.new) e) }
     ensures within { IfOk result (λ e. length e.list ≤ limit) }
-    ensures told { IfOk result (λ e. HasLeft (AreToldOf Primal system.now.system) told_before e.told (seen watch.old) (seen watch.new)) }
+    ensures told { IfOk result (λ e. HasLeftWithin Primal system.now.system limit told_before e.told (seen watch.old) (seen watch.new)) }
 {
     system.kept();
     let order = match order_forms(alloc, &frame.base, system.width as usize, &system.grading) {

@@ -1,10 +1,10 @@
 // The elements of a system by the algorithm of its mode.
 ghost use Rattle.std.specs.Prelude.{◌≡◌, ◌≤◌, length, IfOk, MatchResult};
 ghost use Rattle.nz_pointed.specs.Pointed.{IsSimplexOf};
-ghost use Rattle.nz_watch.specs.Telling.{HasPassedAll, HasLeft};
+ghost use Rattle.nz_watch.specs.Telling.{HasPassedAll};
 ghost use Rattle.nz_measures.specs.Sweeps.{IsSwept};
 ghost use Rattle.nz_frame.specs.Frames.{IsFrame};
-ghost use Rattle.nz_solve.specs.Solutions.{AreToldOf, IsInnerRefusal};
+ghost use Rattle.nz_solve.specs.Solutions.{AreToldOf, HasLeftWithin, IsInnerRefusal};
 ghost use Rattle.nz_solve.specs.Parts.{AreElements};
 
 use crate::by_dual::elements_by_dual;
@@ -44,7 +44,7 @@ pub(crate) fn elements_of<T: Scalar>(
     requires simplex { IsSimplexOf (length frame.now.base.vectors) frame.now.rows simplex.now.places simplex.now.rays }
     ensures elements { MatchResult result (λ e. AreElements system.now e.list e.extreme e.simplices × HasPassedAll (AreToldOf system.now.mode system.now.system) told_before (seen watch.old) (seen watch.new)) (λ e. IsInnerRefusal system.now.mode system.now.system T.HALF limit told_before (seen watch.old) (seen watch.new) e) }
     ensures within { IfOk result (λ e. length e.list ≤ limit) }
-    ensures told { IfOk result (λ e. HasLeft (AreToldOf system.now.mode system.now.system) told_before e.told (seen watch.old) (seen watch.new)) }
+    ensures told { IfOk result (λ e. HasLeftWithin system.now.mode system.now.system limit told_before e.told (seen watch.old) (seen watch.new)) }
 {
     system.kept();
     match system.mode {

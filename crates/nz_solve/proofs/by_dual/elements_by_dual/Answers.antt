@@ -19,7 +19,7 @@ pub all_vectors-requires : goal.all_vectors-requires
 all_vectors-requires g c = wide_at c.args.system.now.system c.args.frame.now.base c.args.frame.now.rows c.kept.ensures.system c.requires.frame c.args.simplex.now.places c.args.simplex.now.rays c.requires.simplex c.in-Ok.found c.in-Ok.ensures.run.0
 
 pub returns-in-Err-all_vectors-clause-elements : goal.returns-in-Err-all_vectors-clause-elements
-returns-in-Err-all_vectors-clause-elements g c = reckon_refused Dual c.args.system.now.system g.T.Scalar.HALF c.args.limit c.args.told_before c.in-Ok-told_after.told _ _ (inr (left_at c.args.system.now.system c.args.frame.now.base c.args.frame.now.rows c.kept.ensures.system c.requires.frame c.args.simplex.now.places c.args.simplex.now.rays c.requires.simplex c.args.told_before c.in-Ok-told_after.told _ _ c.in-Ok.ensures.run.1 (c.in-Ok-told_after.ensures ∙ ap₂ (λ m k. max c.args.told_before (m + 1 - k)) c.len.ensures c.len-2.ensures))) c.in-Err-all_vectors.refusal c.counted.result (λ e. list_refused_at c.args.system.now.system c.args.frame.now.base c.args.frame.now.rows c.kept.ensures.system c.requires.frame c.args.simplex.now.places c.args.simplex.now.rays c.requires.simplex g.T.Scalar.HALF g.T.Scalar.fits g.met.T.Scalar.room c.requires.swept c.in-Ok.found c.in-Ok.ensures.run.0 (c.in-Err-all_vectors.ensures e)) c.counted.ensures
+returns-in-Err-all_vectors-clause-elements g c = reckon_refused Dual c.args.system.now.system g.T.Scalar.HALF c.args.limit c.args.told_before c.in-Ok-told_after.told _ _ (inr (left_at c.args.system.now.system c.args.frame.now.base c.args.frame.now.rows c.kept.ensures.system c.requires.frame c.args.simplex.now.places c.args.simplex.now.rays c.requires.simplex g.T.Scalar.HALF c.args.limit c.args.told_before c.in-Ok-told_after.told _ _ c.in-Ok.ensures.run.1 (c.in-Ok-told_after.ensures ∙ ap₂ (λ m k. max c.args.told_before (m + 1 - k)) c.len.ensures c.len-2.ensures) c.in-Ok.ensures.not_crowded)) c.in-Err-all_vectors.refusal c.counted.result (λ e. list_refused_at c.args.system.now.system c.args.frame.now.base c.args.frame.now.rows c.kept.ensures.system c.requires.frame c.args.simplex.now.places c.args.simplex.now.rays c.requires.simplex g.T.Scalar.HALF g.T.Scalar.fits g.met.T.Scalar.room c.requires.swept c.in-Ok.found c.in-Ok.ensures.run.0 (c.in-Err-all_vectors.ensures e)) c.counted.ensures
 
 pub returns-in-Ok-extreme_where-clause-elements : goal.returns-in-Ok-extreme_where-clause-elements
 returns-in-Ok-extreme_where-clause-elements g c = (
@@ -36,10 +36,10 @@ pub returns-in-Ok-extreme_where-clause-within : goal.returns-in-Ok-extreme_where
 returns-in-Ok-extreme_where-clause-within g c = as_many c.args.frame.now.base c.args.limit c.in-Ok.found c.in-Ok-all_vectors.list c.in-Ok-all_vectors.ensures c.in-Ok.ensures.within
 
 pub returns-clause-elements : goal.returns-clause-elements
-returns-clause-elements g c = reckon_refused Dual c.args.system.now.system g.T.Scalar.HALF c.args.limit c.args.told_before c.in-Ok-told_after.told _ _ (inr (left_at c.args.system.now.system c.args.frame.now.base c.args.frame.now.rows c.kept.ensures.system c.requires.frame c.args.simplex.now.places c.args.simplex.now.rays c.requires.simplex c.args.told_before c.in-Ok-told_after.told _ _ c.in-Ok.ensures.run.1 (c.in-Ok-told_after.ensures ∙ ap₂ (λ m k. max c.args.told_before (m + 1 - k)) c.len.ensures c.len-2.ensures))) c.in-Err-extreme_where.refusal c.counted-in-Err-extreme_where.result (λ e. c.in-Err-extreme_where.ensures.cause e) c.counted-in-Err-extreme_where.ensures
+returns-clause-elements g c = reckon_refused Dual c.args.system.now.system g.T.Scalar.HALF c.args.limit c.args.told_before c.in-Ok-told_after.told _ _ (inr (left_at c.args.system.now.system c.args.frame.now.base c.args.frame.now.rows c.kept.ensures.system c.requires.frame c.args.simplex.now.places c.args.simplex.now.rays c.requires.simplex g.T.Scalar.HALF c.args.limit c.args.told_before c.in-Ok-told_after.told _ _ c.in-Ok.ensures.run.1 (c.in-Ok-told_after.ensures ∙ ap₂ (λ m k. max c.args.told_before (m + 1 - k)) c.len.ensures c.len-2.ensures) c.in-Ok.ensures.not_crowded)) c.in-Err-extreme_where.refusal c.counted-in-Err-extreme_where.result (λ e. c.in-Err-extreme_where.ensures.cause e) c.counted-in-Err-extreme_where.ensures
 
 pub returns-in-Err-told_after-clause-elements : goal.returns-in-Err-told_after-clause-elements
 returns-in-Err-told_after-clause-elements g c = some_of_all Dual c.args.system.now.system c.args.told_before _ _ (told_at c.args.system.now.system c.args.frame.now.base c.args.frame.now.rows c.kept.ensures.system c.requires.frame c.args.simplex.now.places c.args.simplex.now.rays c.requires.simplex c.args.told_before _ _ c.in-Ok.ensures.run.1)
 
 pub returns-in-Ok-extreme_where-clause-told : goal.returns-in-Ok-extreme_where-clause-told
-returns-in-Ok-extreme_where-clause-told g c = left_at c.args.system.now.system c.args.frame.now.base c.args.frame.now.rows c.kept.ensures.system c.requires.frame c.args.simplex.now.places c.args.simplex.now.rays c.requires.simplex c.args.told_before c.in-Ok-told_after.told _ _ c.in-Ok.ensures.run.1 (c.in-Ok-told_after.ensures ∙ ap₂ (λ m k. max c.args.told_before (m + 1 - k)) c.len.ensures c.len-2.ensures)
+returns-in-Ok-extreme_where-clause-told g c = left_at c.args.system.now.system c.args.frame.now.base c.args.frame.now.rows c.kept.ensures.system c.requires.frame c.args.simplex.now.places c.args.simplex.now.rays c.requires.simplex g.T.Scalar.HALF c.args.limit c.args.told_before c.in-Ok-told_after.told _ _ c.in-Ok.ensures.run.1 (c.in-Ok-told_after.ensures ∙ ap₂ (λ m k. max c.args.told_before (m + 1 - k)) c.len.ensures c.len-2.ensures) c.in-Ok.ensures.not_crowded

@@ -4,7 +4,6 @@ use Rattle.nz_measures.specs.Reaches.{HasPrimalAbove, IsPrimalReachAbove}
 use Rattle.nz_primal.proofs.RangeLemmas.{where_map}
 use Rattle.nz_input.specs.declared.kind.Mode.TheVariants.{Primal}
 use Rattle.nz_solve.proofs.ToldLemmas.{left_same}
-use Rattle.nz_solve.specs.Solutions.{AreToldOf}
 use Rattle.nz_solve.proofs.RangeLemmas.{reckon_refused, own_reach, order_refused, primal_above, elements_refused}
 use Rattle.nz_watch.proofs.TellingLemmas.{none_told}
 use Rattle.nz_system.specs.Meaning.{SystemData}
@@ -56,10 +55,10 @@ returns-in-Ok-bring_back-clause-within g c = as_many c.args.frame.now.base c.arg
 
 pub returns-clause-elements : goal.returns-clause-elements
 returns-clause-elements g c =
-    reckon_refused Primal c.args.system.now.system g.T.Scalar.HALF c.args.limit c.args.told_before c.max-told.result _ _ (inr (left_at c.args.system.now.system c.args.frame.now.base c.args.frame.now.rows c.kept.ensures.system c.requires.frame c.args.simplex.now.places c.args.simplex.now.rays c.requires.simplex c.in-Ok.order (order_here c.args.system.now.system c.args.frame.now.base c.in-Ok.order _ _ (ap (λ (d : SystemData). d.system.width) c.system.view_is) (ap (λ (d : SystemData). d.system.grading) c.system.view_is) c.in-Ok.ensures.pulled) c.in-Ok-primal.lists.list c.in-Ok-primal.lists.extreme c.in-Ok-primal.lists.cover.simplices c.in-Ok-primal.lists.cover.forms c.args.told_before c.max-told.result c.in-Ok-primal.lists.stages _ _ c.in-Ok-primal.ensures.lists c.in-Ok-primal.ensures.stages c.max-told.ensures))
+    reckon_refused Primal c.args.system.now.system g.T.Scalar.HALF c.args.limit c.args.told_before c.max-told.result _ _ (inr (left_at c.args.system.now.system c.args.frame.now.base c.args.frame.now.rows c.kept.ensures.system c.requires.frame c.args.simplex.now.places c.args.simplex.now.rays c.requires.simplex c.in-Ok.order (order_here c.args.system.now.system c.args.frame.now.base c.in-Ok.order _ _ (ap (λ (d : SystemData). d.system.width) c.system.view_is) (ap (λ (d : SystemData). d.system.grading) c.system.view_is) c.in-Ok.ensures.pulled) c.in-Ok-primal.lists.list c.in-Ok-primal.lists.extreme c.in-Ok-primal.lists.cover.simplices c.in-Ok-primal.lists.cover.forms c.args.limit c.args.told_before c.max-told.result c.in-Ok-primal.lists.stages _ _ c.in-Ok-primal.ensures.lists c.in-Ok-primal.ensures.stages c.max-told.ensures))
     c.in-Err-bring_back.refusal c.counted-in-Err-bring_back.result
     (λ e. elements_refused c.args.system.now.system c.args.frame.now.base c.args.frame.now.rows c.requires.frame c.requires.swept g.T.Scalar.HALF g.T.Scalar.fits g.met.T.Scalar.room c.in-Ok-primal.lists.list c.in-Ok-primal.lists.extreme (pt c.args.system.now.system c.args.frame.now.base c.args.frame.now.rows c.kept.ensures.system c.requires.frame c.args.simplex.now.places c.args.simplex.now.rays c.requires.simplex c.in-Ok.order (order_here c.args.system.now.system c.args.frame.now.base c.in-Ok.order _ _ (ap (λ (d : SystemData). d.system.width) c.system.view_is) (ap (λ (d : SystemData). d.system.grading) c.system.view_is) c.in-Ok.ensures.pulled)) (list_irreducible_at c.args.system.now.system c.args.frame.now.base c.args.frame.now.rows c.kept.ensures.system c.requires.frame c.args.simplex.now.places c.args.simplex.now.rays c.requires.simplex c.in-Ok.order (order_here c.args.system.now.system c.args.frame.now.base c.in-Ok.order _ _ (ap (λ (d : SystemData). d.system.width) c.system.view_is) (ap (λ (d : SystemData). d.system.grading) c.system.view_is) c.in-Ok.ensures.pulled) c.in-Ok-primal.lists.list c.in-Ok-primal.lists.extreme c.in-Ok-primal.lists.cover.simplices c.in-Ok-primal.lists.cover.forms c.in-Ok-primal.ensures.lists.0) (extreme_at c.args.system.now.system c.args.frame.now.base c.args.frame.now.rows c.kept.ensures.system c.requires.frame c.args.simplex.now.places c.args.simplex.now.rays c.requires.simplex c.in-Ok.order (order_here c.args.system.now.system c.args.frame.now.base c.in-Ok.order _ _ (ap (λ (d : SystemData). d.system.width) c.system.view_is) (ap (λ (d : SystemData). d.system.grading) c.system.view_is) c.in-Ok.ensures.pulled) c.in-Ok-primal.lists.list c.in-Ok-primal.lists.extreme c.in-Ok-primal.lists.cover.simplices c.in-Ok-primal.lists.cover.forms c.in-Ok-primal.ensures.lists.0) (c.in-Err-bring_back.ensures.cause e))
     c.counted-in-Err-bring_back.ensures
 
 pub returns-in-Ok-bring_back-clause-told : goal.returns-in-Ok-bring_back-clause-told
-returns-in-Ok-bring_back-clause-told g c = left_same (AreToldOf Primal c.args.system.now.system) c.args.told_before c.max-told.result c.in-Ok-bring_back.elements.told _ _ c.in-Ok-bring_back.ensures.told (left_at c.args.system.now.system c.args.frame.now.base c.args.frame.now.rows c.kept.ensures.system c.requires.frame c.args.simplex.now.places c.args.simplex.now.rays c.requires.simplex c.in-Ok.order (order_here c.args.system.now.system c.args.frame.now.base c.in-Ok.order _ _ (ap (λ (d : SystemData). d.system.width) c.system.view_is) (ap (λ (d : SystemData). d.system.grading) c.system.view_is) c.in-Ok.ensures.pulled) c.in-Ok-primal.lists.list c.in-Ok-primal.lists.extreme c.in-Ok-primal.lists.cover.simplices c.in-Ok-primal.lists.cover.forms c.args.told_before c.max-told.result c.in-Ok-primal.lists.stages _ _ c.in-Ok-primal.ensures.lists c.in-Ok-primal.ensures.stages c.max-told.ensures)
+returns-in-Ok-bring_back-clause-told g c = left_same Primal c.args.system.now.system c.args.limit c.args.told_before c.max-told.result c.in-Ok-bring_back.elements.told _ _ c.in-Ok-bring_back.ensures.told (left_at c.args.system.now.system c.args.frame.now.base c.args.frame.now.rows c.kept.ensures.system c.requires.frame c.args.simplex.now.places c.args.simplex.now.rays c.requires.simplex c.in-Ok.order (order_here c.args.system.now.system c.args.frame.now.base c.in-Ok.order _ _ (ap (λ (d : SystemData). d.system.width) c.system.view_is) (ap (λ (d : SystemData). d.system.grading) c.system.view_is) c.in-Ok.ensures.pulled) c.in-Ok-primal.lists.list c.in-Ok-primal.lists.extreme c.in-Ok-primal.lists.cover.simplices c.in-Ok-primal.lists.cover.forms c.args.limit c.args.told_before c.max-told.result c.in-Ok-primal.lists.stages _ _ c.in-Ok-primal.ensures.lists c.in-Ok-primal.ensures.stages c.max-told.ensures)
