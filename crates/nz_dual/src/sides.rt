@@ -7,7 +7,7 @@ ghost use Rattle.nz_reducer.specs.Tables.{NoneIsBelow};
 ghost use Rattle.nz_dual.specs.Sides.{IsEmpty, IsSide, IsSideElement, IsNoted, IsWorkOf, Keeps, Handles, HasGrown, IsOfferRefusal};
 
 use crate::values::{size_of, values_before};
-use nz_reducer::{ListTable, Table};
+use nz_reducer::{DegreeTable, Table};
 use nz_vec::{NoMemory, Num, Row, Rows, Scalar, Work, is_negative, is_positive};
 use std::alloc::Global;
 use std::marker::Model;
@@ -19,7 +19,7 @@ pub(crate) struct Side<T: Scalar> {
     pub(crate) last: Row<T>,
     pub(crate) elements: Rows<T>,
     /// The values of the forms at the elements.
-    pub(crate) table: ListTable<T>,
+    pub(crate) table: DegreeTable<T>,
     /// The elements at which the last form is positive.
     pub(crate) rising: Rows<T>,
     /// The degrees of these: the sums of the values of the rows so far.
@@ -43,7 +43,7 @@ impl<T: Scalar> Side<T> {
             Some(columns) => columns,
             None => return Err(NoMemory),
         };
-        let table = match ListTable::new(alloc, columns) {
+        let table = match DegreeTable::new(alloc, columns) {
             Ok(table) => table,
             Err(refusal) => return Err(refusal),
         };
