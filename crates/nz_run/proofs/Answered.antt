@@ -55,7 +55,7 @@ no_grade s x graded f =
 
 crowd_above : (mode : Mode) (s : System) (limit : ℕ) (before now : Watched) → IsCrowd mode s limit 0 before now → IsCrowdAbove mode s limit
 crowd_above Primal s limit before now k = k.1
-crowd_above Dual s limit before now k = (k.earlier, k.crowd)
+crowd_above Dual s limit before now k = (k.0, k.1)
 
 module _ (one_order : OrdersOne) (one_file : OneFile) (words : List Text) (old new : Files) (faults faults' : ℕ) (before now : Watched) (v : IsValidRun words old) where
   -- what is said of what the words order is said of the order at hand
