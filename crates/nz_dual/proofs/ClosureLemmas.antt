@@ -1,5 +1,5 @@
 -- Both sides of a row: what an offer to one of them keeps, and when they are complete.
-use Rattle.std.proofs.Common.{◌≡◌, ⊎_elim, inl, inr, ℕ, zero, suc, ◌+◌, ◌<◌, ◌≤◌, ◌^◌, List, [], ◌∷◌, ◌++◌, length, take, get_or, Option, Some, None, ℤ, pos, neg_ℤ, ◌*ℤ◌, ◌+ℤ◌, ◌-ℤ◌, ◌≤ℤ◌, ◌<ℤ◌, Contains, refl, sym, ap, ap₂, ◌∙◌, subst, arith, append_assoc}
+use Rattle.std.proofs.Common.{◌≡◌, ◌⊎◌, ⊎_elim, inl, inr, ℕ, zero, suc, ◌+◌, ◌<◌, ◌≤◌, ◌^◌, List, [], ◌∷◌, ◌++◌, length, take, get_or, Option, Some, None, ℤ, pos, neg_ℤ, ◌*ℤ◌, ◌+ℤ◌, ◌-ℤ◌, ◌≤ℤ◌, ◌<ℤ◌, Contains, refl, sym, ap, ap₂, ◌∙◌, subst, arith, append_assoc}
 use Rattle.std.proofs.lemmas.Int.{ints, by_lt_z}
 use Rattle.std.proofs.lemmas.List.{take_more}
 use Rattle.std.proofs.lemmas.List.Elements.{Contains-append_left, Contains-append_right, Contains-append_cases}
@@ -10,7 +10,7 @@ use Rattle.nz_spec.specs.Laws.{IsDegreeOf}
 use Rattle.nz_spec.specs.Monoids.{IsPositive, IsIrreducible}
 use Rattle.nz_spec.specs.Stages.{IsInStage, IsInReversed}
 use Rattle.nz_spec.proofs.VectorLaws.{dot-plus, dot-IsZero}
-use Rattle.nz_spec.proofs.ListLaws.{Each-contains, Each-from_contains, Each-weaker, contains_here, contains_cases, contains_none, each_at}
+use Rattle.nz_spec.proofs.ListLaws.{Each-contains, Each-weaker, contains_here, contains_cases, contains_none, each_at}
 use Rattle.nz_order.specs.Totals.{total}
 use Rattle.nz_order.proofs.OrderLaws.{Each-push}
 use Rattle.nz_order.proofs.SortLaws.{Each-front}
@@ -25,8 +25,8 @@ use Rattle.nz_range.proofs.Fits.{abs_of_neg}
 use Rattle.nz_linear.proofs.Ring.{sums, ring_z}
 use Rattle.nz_dual.specs.DualStages.{IsElement, IsReversedElement, IsStageList, IsNamed, element, reversed, sum, IsTooLarge, IsInsertRefusal}
 use Rattle.nz_dual.specs.Sides.{SideLists, IsSide, IsSideElement, Keeps, Handles, HasGrown, IsWorkOf, IsOfferRefusal}
-use Rattle.nz_dual.specs.PairSums.{IsNotSooner, IsNext, IsSumOf, AreOneWidth, AreSums}
-use Rattle.nz_dual.specs.Closures.{IsPart, HandlesSums, IsComplete, IsOfferedRefusal}
+use Rattle.nz_dual.specs.PairSums.{IsNotSooner, IsNext, IsSumOf, AreSums}
+use Rattle.nz_dual.specs.Closures.{IsPart, IsSettled, HandlesSums, IsComplete, IsOfferedRefusal}
 use Rattle.nz_dual.proofs.SideLemmas.{old_element, keeps_lower, keeps_more, handles_more, opposite_value, opposite_length, reversed_of_side, side_of_reversed}
 
 -- ---- growth
@@ -92,6 +92,9 @@ degrees_bound limit rows s i = zip_each (λ v d. (dot (total (length s.last) row
 
 degree_at : (limit : ℕ) (rows : List Vector) (s : SideLists) → IsSide limit rows s → (k : ℕ) → k < length s.rising → dot (total (length s.last) rows) (get_or s.rising k []) ≡ pos (get_or s.degrees k 0)
 degree_at limit rows s i k l = (zip_get (λ v d. (dot (total (length s.last) rows) v ≡ pos d) × (d < 2 ^ 127)) s.rising s.degrees k [] i.degrees l).0
+
+pub degree_small : (limit : ℕ) (rows : List Vector) (s : SideLists) → IsSide limit rows s → (k : ℕ) → k < length s.rising → get_or s.degrees k 0 < 2 ^ 127
+degree_small limit rows s i k l = (zip_get (λ v d. (dot (total (length s.last) rows) v ≡ pos d) × (d < 2 ^ 127)) s.rising s.degrees k [] i.degrees l).1
 
 side_member : (rows : List Vector) (last v : Vector) → IsSideElement rows last v → IsInStage (HasWidth (length last)) rows v
 side_member rows last v i = record { in_lattice = i.member.in_lattice; at_least = Each-front (λ r. pos 0 ≤ℤ dot r v) rows (last ∷ []) i.member.at_least }
@@ -224,12 +227,6 @@ module _ (limit : ℕ) (rows : List Vector) (up down : SideLists) (p : IsPart li
       nat_each P (x ∷ xs) zero h l = h.0
       nat_each P (x ∷ xs) (suc k) h l = nat_each P xs k h.1 (omega arith)
 
-  pub widths : AreOneWidth up.rising down.rising
-  widths = Each-from_contains (λ x. Each (HasWidth (length x)) down.rising) up.rising (λ x c. Each-from_contains (HasWidth (length x)) down.rising (λ y k.
-      let i = up_element x (Each-contains (λ v. Contains up.elements v × (pos 0 <ℤ dot up.last v)) up.rising x p.up_side.rising c).0 in
-      let j = down_element y (Each-contains (λ v. Contains down.elements v × (pos 0 <ℤ dot down.last v)) down.rising y p.down_side.rising k).0 in
-      j.member.in_lattice ∙ w_same ∙ sym i.member.in_lattice))
-
   pub rising_large : (h : ℤ) → SomeLarge h (Contains (up.rising ++ down.rising)) → IsTooLarge h (length up.last) rows up.last
   rising_large h s = inl (record {
     vector = s.vector;
@@ -316,10 +313,16 @@ module _ (limit : ℕ) (rows : List Vector) (up down : SideLists) (p : IsPart li
     sum_named x s = let c = candidate x s in subst (IsNamed (length up.last) rows up.last) (sym c.same) (sum c.of_up (from_side c.second c.of_down))
 
     -- after the sums of this degree
-    module _ (listed ups downs more_up more_down : List Vector) (are : AreSums up.rising up.degrees down.rising down.degrees degree (length up.rising) listed)
+    module _ (listed ups downs more_up more_down : List Vector) (are : AreSums (IsSettled rows up down) up.rising up.degrees down.rising down.degrees degree (length up.rising) listed)
         (grew_up : ups ≡ up.elements ++ more_up) (grew_down : downs ≡ down.elements ++ more_down)
         (only_up : Each (IsSideElement rows up.last) ups) (only_down : Each (IsSideElement rows down.last) downs)
         (handled_up : Each (Handles rows up.last ups) listed) (handled_down : Each (Handles rows down.last downs) listed) where
+      still : (z : Vector) → IsSettled rows up down z → Handles rows up.last ups z × Handles rows down.last downs z
+      still z h = (
+        subst (λ (es : List Vector). Handles rows up.last es z) (sym grew_up) (handles_more rows up.last up.elements more_up z h.0),
+        subst (λ (es : List Vector). Handles rows down.last es z) (sym grew_down) (handles_more rows down.last down.elements more_down z h.1),
+      )
+
       both_old : (q n : Vector) → Contains up.elements q → Contains down.elements n → pos 0 <ℤ dot up.last q → pos 0 <ℤ dot down.last n → dot (total (length up.last) rows) (plus q n) ≤ℤ pos degree → Handles rows up.last ups (plus q n) × Handles rows down.last downs (plus q n)
       both_old q n cq cn hq hn l =
           let a = up_placed q cq hq in
@@ -328,14 +331,14 @@ module _ (limit : ℕ) (rows : List Vector) (up down : SideLists) (p : IsPart li
           let da = a.is_degree in let db = b.is_degree in
           ⊎_elim
           (λ (k : get_or up.degrees a.place 0 + get_or down.degrees b.place 0 ≤ last).
-          let h = sums q n cq cn hq hn (omega (arith, ints, s, da, db, k)) in (
-            subst (λ (es : List Vector). Handles rows up.last es (plus q n)) (sym grew_up) (handles_more rows up.last up.elements more_up (plus q n) h.0),
-            subst (λ (es : List Vector). Handles rows down.last es (plus q n)) (sym grew_down) (handles_more rows down.last down.elements more_down (plus q n) h.1),
-          ))
+          still (plus q n) (sums q n cq cn hq hn (omega (arith, ints, s, da, db, k))))
           (λ (k : degree ≤ get_or up.degrees a.place 0 + get_or down.degrees b.place 0).
           let e : get_or up.degrees a.place 0 + get_or down.degrees b.place 0 ≡ degree = omega (arith, ints, s, da, db, k, l) in
-          let c = subst (λ (v : Vector). Contains listed (plus v n)) a.same (subst (λ (v : Vector). Contains listed (plus (get_or up.rising a.place []) v)) b.same (are.each a.place a.inside b.place b.inside e)) in
-          (Each-contains (Handles rows up.last ups) listed (plus q n) handled_up c, Each-contains (Handles rows down.last downs) listed (plus q n) handled_down c))
+          let o : Vector → Type 0 = λ z. Contains listed z ⊎ IsSettled rows up down z in
+          ⊎_elim
+          (λ (c : Contains listed (plus q n)). (Each-contains (Handles rows up.last ups) listed (plus q n) handled_up c, Each-contains (Handles rows down.last downs) listed (plus q n) handled_down c))
+          (λ (h : IsSettled rows up down (plus q n)). still (plus q n) h)
+          (subst (λ (v : Vector). o (plus v n)) a.same (subst (λ (v : Vector). o (plus (get_or up.rising a.place []) v)) b.same (are.each a.place a.inside b.place b.inside e))))
           (not_sooner last (Some degree) next q n a b)
 
       pub sums_next : HandlesSums rows up.last down.last degree ups downs
@@ -360,7 +363,7 @@ part_next limit rows up down up' down' p f g = record {
 }
 
 pub handles_sums_next : (limit : ℕ) (rows : List Vector) (up down up' down' : SideLists) (p : IsPart limit rows up down) (last degree : ℕ) → HandlesSums rows up.last down.last last up.elements down.elements → IsNext last up.degrees down.degrees (Some degree)
-    → (listed : List Vector) → AreSums up.rising up.degrees down.rising down.degrees degree (length up.rising) listed → HasGrown limit rows up up' → HasGrown limit rows down down' → Each (Handles rows up.last up'.elements) listed → Each (Handles rows down.last down'.elements) listed
+    → (listed : List Vector) → AreSums (IsSettled rows up down) up.rising up.degrees down.rising down.degrees degree (length up.rising) listed → HasGrown limit rows up up' → HasGrown limit rows down down' → Each (Handles rows up.last up'.elements) listed → Each (Handles rows down.last down'.elements) listed
     → HandlesSums rows up'.last down'.last degree up'.elements down'.elements
 handles_sums_next limit rows up down up' down' p last degree sums next listed are f g hu hd =
     subst (λ (v : Vector). HandlesSums rows v down'.last degree up'.elements down'.elements) (sym f.last)
@@ -370,15 +373,15 @@ handles_sums_next limit rows up down up' down' p last degree sums next listed ar
     (subst (λ (v : Vector). Each (IsSideElement rows v) down'.elements) g.last g.side.elements) hu hd))
 
 pub all_keep_up : (limit : ℕ) (rows : List Vector) (up down : SideLists) (p : IsPart limit rows up down) (last degree : ℕ) → HandlesSums rows up.last down.last last up.elements down.elements → IsNext last up.degrees down.degrees (Some degree)
-    → (listed : List Vector) → AreSums up.rising up.degrees down.rising down.degrees degree (length up.rising) listed → Each (Keeps rows up.last up.elements) listed
+    → (listed : List Vector) → AreSums (IsSettled rows up down) up.rising up.degrees down.rising down.degrees degree (length up.rising) listed → Each (Keeps rows up.last up.elements) listed
 all_keep_up limit rows up down p last degree sums next listed are = Each-weaker (IsSumOf up.rising up.degrees down.rising down.degrees degree) (Keeps rows up.last up.elements) (λ x s. keeps_up limit rows up down p last degree sums next x s) listed are.only
 
 pub all_keep_down : (limit : ℕ) (rows : List Vector) (up down : SideLists) (p : IsPart limit rows up down) (last degree : ℕ) → HandlesSums rows up.last down.last last up.elements down.elements → IsNext last up.degrees down.degrees (Some degree)
-    → (listed : List Vector) → AreSums up.rising up.degrees down.rising down.degrees degree (length up.rising) listed → Each (Keeps rows down.last down.elements) listed
+    → (listed : List Vector) → AreSums (IsSettled rows up down) up.rising up.degrees down.rising down.degrees degree (length up.rising) listed → Each (Keeps rows down.last down.elements) listed
 all_keep_down limit rows up down p last degree sums next listed are = Each-weaker (IsSumOf up.rising up.degrees down.rising down.degrees degree) (Keeps rows down.last down.elements) (λ x s. keeps_down limit rows up down p last degree sums next x s) listed are.only
 
 pub all_wide : (limit : ℕ) (rows : List Vector) (up down : SideLists) (p : IsPart limit rows up down) (last degree : ℕ) → HandlesSums rows up.last down.last last up.elements down.elements → IsNext last up.degrees down.degrees (Some degree)
-    → (listed : List Vector) → AreSums up.rising up.degrees down.rising down.degrees degree (length up.rising) listed → Each (HasWidth (length up.last)) listed
+    → (listed : List Vector) → AreSums (IsSettled rows up down) up.rising up.degrees down.rising down.degrees degree (length up.rising) listed → Each (HasWidth (length up.last)) listed
 all_wide limit rows up down p last degree sums next listed are = Each-weaker (IsSumOf up.rising up.degrees down.rising down.degrees degree) (HasWidth (length up.last)) (λ x s. sum_wide limit rows up down p last degree sums next x s) listed are.only
 
 pub side_width : (limit : ℕ) (rows : List Vector) (up down : SideLists) → IsPart limit rows up down → length down.last ≡ length up.last
@@ -399,7 +402,7 @@ no_sums limit rows up down p q n cq cn hq hn l =
 
 -- a refusal while the sums of one degree are offered
 pub close_refused : (h : ℤ) (limit : ℕ) (rows : List Vector) (up down : SideLists) (p : IsPart limit rows up down) (last degree : ℕ) → HandlesSums rows up.last down.last last up.elements down.elements → IsNext last up.degrees down.degrees (Some degree)
-    → (listed : List Vector) → AreSums up.rising up.degrees down.rising down.degrees degree (length up.rising) listed → (row : Vector) → up.last ≡ row → (work : Work) → IsOfferedRefusal h limit rows up.last down.last (Contains listed) work → IsInsertRefusal h limit (length row) rows row work
+    → (listed : List Vector) → AreSums (IsSettled rows up down) up.rising up.degrees down.rising down.degrees degree (length up.rising) listed → (row : Vector) → up.last ≡ row → (work : Work) → IsOfferedRefusal h limit rows up.last down.last (Contains listed) work → IsInsertRefusal h limit (length row) rows row work
 close_refused h limit rows up down p last degree sums next listed are row same work r =
     let named : (v : Vector) → Contains listed v → IsNamed (length up.last) rows up.last v = λ v c. sum_named limit rows up down p last degree sums next v (Each-contains (IsSumOf up.rising up.degrees down.rising down.degrees degree) listed v are.only c) in
     subst (λ (v : Vector). IsInsertRefusal h limit (length v) rows v work) same (⊎_elim
@@ -412,10 +415,3 @@ sums_refused h limit rows up down p row same refusal (Range told) f w = (w.1, su
 sums_refused h limit rows up down p row same refusal TooMany f w = absurd w
 sums_refused h limit rows up down p row same refusal (Stopped stage) f w = w
 sums_refused h limit rows up down p row same refusal NoMemory f w = tt
-
-pub same_sums : (us us' vs vs' : List Vector) (ds ds' es es' : List ℕ) (wanted : ℕ) (listed : List Vector) → us ≡ us' → ds ≡ ds' → vs ≡ vs' → es ≡ es' → AreSums us ds vs es wanted (length us) listed → AreSums us' ds' vs' es' wanted (length us') listed
-same_sums us us' vs vs' ds ds' es es' wanted listed a b c d h =
-    subst (λ (xs : List Vector). AreSums xs ds' vs' es' wanted (length xs) listed) a
-    (subst (λ (ns : List ℕ). AreSums us ns vs' es' wanted (length us) listed) b
-    (subst (λ (xs : List Vector). AreSums us ds xs es' wanted (length us) listed) c
-    (subst (λ (ns : List ℕ). AreSums us ds vs ns wanted (length us) listed) d h)))

@@ -2,6 +2,7 @@ pub mod SideLemmas
 pub mod SumLemmas
 pub mod ValueLemmas
 pub mod KeepLemmas
+pub mod PairLemmas
 pub mod ClosureLemmas
 pub mod StageLemmas
 pub mod FirstStageLemmas

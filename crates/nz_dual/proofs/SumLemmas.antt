@@ -1,5 +1,5 @@
 -- The sums of two vectors by their degrees, as they are looked at one by one.
-use Rattle.std.proofs.Common.{◌≡◌, ⊎_elim, ℕ, ◌+◌, ◌<◌, List, [], ◌∷◌, ◌++◌, length, take, get_or, Option, ℤ, pos, ◌≤ℤ◌, Contains, sym, ap, ap₂, ◌∙◌, subst, arith, below_more, append_assoc}
+use Rattle.std.proofs.Common.{◌≡◌, ◌⊎◌, ⊎_elim, inl, inr, ℕ, ◌+◌, ◌<◌, List, [], ◌∷◌, ◌++◌, length, take, get_or, Option, ℤ, pos, ◌≤ℤ◌, Contains, sym, ap, ap₂, ◌∙◌, subst, arith, below_more, append_assoc}
 use Rattle.std.proofs.lemmas.List.{append-nil}
 use Rattle.std.proofs.lemmas.Int.{ints}
 use Rattle.std.proofs.lemmas.List.{take_more}
@@ -70,46 +70,58 @@ large_in_both h firsts seconds place x l e = large_among h (Contains (x ∷ seco
     (contains_cases x seconds v c))
 
 -- ---- the sums of one vector with others
-pub adds_none : (x : Vector) (degree : ℕ) (others : List Vector) (degrees : List ℕ) (wanted : ℕ) (old : List Vector) → AddsSums x degree others degrees wanted 0 old old
-adds_none x degree others degrees wanted old = record {
+pub adds_none : (Settled : Vector → Type 0) (x : Vector) (degree : ℕ) (others : List Vector) (degrees : List ℕ) (wanted : ℕ) (old : List Vector) → AddsSums Settled x degree others degrees wanted 0 old old
+adds_none Settled x degree others degrees wanted old = record {
   more = [];
   extends = sym (append-nil old);
   sums = tt;
   each = λ k l. absurd (let f : ⊥ = omega arith in f);
 }
 
-pub adds_more : (x : Vector) (degree : ℕ) (others : List Vector) (degrees : List ℕ) (wanted place : ℕ) (old sums new : List Vector) (y : Vector) → place < length others → y ≡ get_or others place [] → degree + get_or degrees place 0 ≡ wanted → new ≡ sums ++ plus x y ∷ []
-    → AddsSums x degree others degrees wanted place old sums → AddsSums x degree others degrees wanted (place + 1) old new
-adds_more x degree others degrees wanted place old sums new y l e d n a =
+pub adds_more : (Settled : Vector → Type 0) (x : Vector) (degree : ℕ) (others : List Vector) (degrees : List ℕ) (wanted place : ℕ) (old sums new : List Vector) (y : Vector) → place < length others → y ≡ get_or others place [] → degree + get_or degrees place 0 ≡ wanted → new ≡ sums ++ plus x y ∷ []
+    → AddsSums Settled x degree others degrees wanted place old sums → AddsSums Settled x degree others degrees wanted (place + 1) old new
+adds_more Settled x degree others degrees wanted place old sums new y l e d n a =
     let P : Vector → Type 0 = IsSumWith x degree others degrees wanted in
     record {
       more = a.more ++ plus x y ∷ [];
       extends = n ∙ ap (λ (ss : List Vector). ss ++ plus x y ∷ []) a.extends ∙ append_assoc old a.more (plus x y ∷ []);
       sums = Each-push P a.more (plus x y) a.sums (record { place = place; inside = l; has_degree = d; same = ap (plus x) e });
-      each = below_more (λ k. degree + get_or degrees k 0 ≡ wanted → Contains (a.more ++ plus x y ∷ []) (plus x (get_or others k []))) place
-          (λ k m w. Contains-append_left a.more (plus x y ∷ []) (plus x (get_or others k [])) (a.each k m w))
-          (λ w. Contains-append_right a.more (plus x y ∷ []) (plus x (get_or others place [])) (subst (Contains (plus x y ∷ [])) (ap (plus x) e) (contains_here (plus x y) [])));
+      each = below_more (λ k. degree + get_or degrees k 0 ≡ wanted → Contains (a.more ++ plus x y ∷ []) (plus x (get_or others k [])) ⊎ Settled (plus x (get_or others k []))) place
+          (λ k m w. ⊎_elim (λ c. inl (Contains-append_left a.more (plus x y ∷ []) (plus x (get_or others k [])) c)) (λ t. inr t) (a.each k m w))
+          (λ w. inl (Contains-append_right a.more (plus x y ∷ []) (plus x (get_or others place [])) (subst (Contains (plus x y ∷ [])) (ap (plus x) e) (contains_here (plus x y) []))));
     }
 
-pub adds_skip : (x : Vector) (degree : ℕ) (others : List Vector) (degrees : List ℕ) (wanted place : ℕ) (old sums new : List Vector) → ¬ (degree + get_or degrees place 0 ≡ wanted) → new ≡ sums
-    → AddsSums x degree others degrees wanted place old sums → AddsSums x degree others degrees wanted (place + 1) old new
-adds_skip x degree others degrees wanted place old sums new n e a = record {
+pub adds_skip : (Settled : Vector → Type 0) (x : Vector) (degree : ℕ) (others : List Vector) (degrees : List ℕ) (wanted place : ℕ) (old sums new : List Vector) → ¬ (degree + get_or degrees place 0 ≡ wanted) → new ≡ sums
+    → AddsSums Settled x degree others degrees wanted place old sums → AddsSums Settled x degree others degrees wanted (place + 1) old new
+adds_skip Settled x degree others degrees wanted place old sums new n e a = record {
   more = a.more;
   extends = e ∙ a.extends;
   sums = a.sums;
-  each = below_more (λ k. degree + get_or degrees k 0 ≡ wanted → Contains a.more (plus x (get_or others k []))) place a.each (λ w. absurd (n w));
+  each = below_more (λ k. degree + get_or degrees k 0 ≡ wanted → Contains a.more (plus x (get_or others k [])) ⊎ Settled (plus x (get_or others k []))) place a.each (λ w. absurd (n w));
+}
+
+pub adds_settled : (Settled : Vector → Type 0) (x : Vector) (degree : ℕ) (others : List Vector) (degrees : List ℕ) (wanted place : ℕ) (old sums : List Vector) → Settled (plus x (get_or others place []))
+    → AddsSums Settled x degree others degrees wanted place old sums → AddsSums Settled x degree others degrees wanted (place + 1) old sums
+adds_settled Settled x degree others degrees wanted place old sums t a = record {
+  more = a.more;
+  extends = a.extends;
+  sums = a.sums;
+  each = below_more (λ k. degree + get_or degrees k 0 ≡ wanted → Contains a.more (plus x (get_or others k [])) ⊎ Settled (plus x (get_or others k []))) place a.each (λ w. inr t);
 }
 
 -- ---- the sums of one vector of each list
-pub sums_more : (firsts : List Vector) (first_degrees : List ℕ) (seconds : List Vector) (second_degrees : List ℕ) (wanted place : ℕ) (sums new : List Vector) (x : Vector) → place < length firsts → x ≡ get_or firsts place []
-    → AddsSums x (get_or first_degrees place 0) seconds second_degrees wanted (length seconds) sums new → AreSums firsts first_degrees seconds second_degrees wanted place sums → AreSums firsts first_degrees seconds second_degrees wanted (place + 1) new
-sums_more firsts first_degrees seconds second_degrees wanted place sums new x l e a s =
+pub sums_more : (Settled : Vector → Type 0) (firsts : List Vector) (first_degrees : List ℕ) (seconds : List Vector) (second_degrees : List ℕ) (wanted place : ℕ) (sums new : List Vector) (x : Vector) → place < length firsts → x ≡ get_or firsts place []
+    → AddsSums Settled x (get_or first_degrees place 0) seconds second_degrees wanted (length seconds) sums new → AreSums Settled firsts first_degrees seconds second_degrees wanted place sums → AreSums Settled firsts first_degrees seconds second_degrees wanted (place + 1) new
+sums_more Settled firsts first_degrees seconds second_degrees wanted place sums new x l e a s =
     let whole : sums ++ a.more ≡ new = sym a.extends in
     record {
       only = let P : Vector → Type 0 = IsSumOf firsts first_degrees seconds second_degrees wanted in
           subst (Each P) whole (Each-append P sums a.more s.only
           (Each-weaker (IsSumWith x (get_or first_degrees place 0) seconds second_degrees wanted) P (λ z k. record { place = place; inside = l; with_second = subst (λ (v : Vector). IsSumWith v (get_or first_degrees place 0) seconds second_degrees wanted z) e k }) a.more a.sums));
-      each = below_more (λ i. (k : ℕ) → k < length seconds → get_or first_degrees i 0 + get_or second_degrees k 0 ≡ wanted → Contains new (plus (get_or firsts i []) (get_or seconds k []))) place
-          (λ i m k b w. subst (λ (ss : List Vector). Contains ss (plus (get_or firsts i []) (get_or seconds k []))) whole (Contains-append_left sums a.more (plus (get_or firsts i []) (get_or seconds k [])) (s.each i m k b w)))
-          (λ k b w. subst (λ (ss : List Vector). Contains ss (plus (get_or firsts place []) (get_or seconds k []))) whole (Contains-append_right sums a.more (plus (get_or firsts place []) (get_or seconds k [])) (subst (λ (v : Vector). Contains a.more (plus v (get_or seconds k []))) e (a.each k b w))));
+      each = below_more (λ i. (k : ℕ) → k < length seconds → get_or first_degrees i 0 + get_or second_degrees k 0 ≡ wanted → Contains new (plus (get_or firsts i []) (get_or seconds k [])) ⊎ Settled (plus (get_or firsts i []) (get_or seconds k []))) place
+          (λ i m k b w. ⊎_elim (λ c. inl (subst (λ (ss : List Vector). Contains ss (plus (get_or firsts i []) (get_or seconds k []))) whole (Contains-append_left sums a.more (plus (get_or firsts i []) (get_or seconds k [])) c))) (λ t. inr t) (s.each i m k b w))
+          (λ k b w. ⊎_elim
+          (λ c. inl (subst (λ (ss : List Vector). Contains ss (plus (get_or firsts place []) (get_or seconds k []))) whole (Contains-append_right sums a.more (plus (get_or firsts place []) (get_or seconds k [])) (subst (λ (v : Vector). Contains a.more (plus v (get_or seconds k []))) e c))))
+          (λ t. inr (subst (λ (v : Vector). Settled (plus v (get_or seconds k []))) e t))
+          (a.each k b w));
     }

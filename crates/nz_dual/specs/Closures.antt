@@ -18,6 +18,14 @@ pub record IsPart (limit : ℕ) (rows : List Vector) (up down : SideLists) : Typ
   pub up_old : Each (Handles rows up.last up.elements) list
   pub down_old : Each (Handles rows down.last down.elements) list
 
+-- the sides of a row and of its opposite with some limit
+abbrev pub AreParts : List Vector → SideLists → SideLists → Type 0
+AreParts rows up down = (limit : ℕ) × IsPart limit rows up down
+
+-- neither side needs the vector: it is one of the elements of each side on which it is irreducible
+abbrev pub IsSettled : List Vector → SideLists → SideLists → Vector → Type 0
+IsSettled rows up down x = Handles rows up.last up.elements x × Handles rows down.last down.elements x
+
 -- each sum of two of these elements, one of each side and both rising there, of at most this degree is handled on both sides
 abbrev pub HandlesSums : List Vector → Vector → Vector → ℕ → List Vector → List Vector → Type 0
 HandlesSums rows up down degree ups downs = (p n : Vector) → Contains ups p → Contains downs n → pos 0 <ℤ dot up p → pos 0 <ℤ dot down n → dot (total (length up) rows) (plus p n) ≤ℤ pos degree → Handles rows up ups (plus p n) × Handles rows down downs (plus p n)

@@ -12,20 +12,21 @@ use Rattle.nz_vec.specs.declared.answers.Work.{Work}
 use Rattle.nz_vec.specs.declared.answers.Work.TheVariants.{Range, TooMany, Stopped, NoMemory}
 use Rattle.nz_dual.specs.DualStages.{IsElement}
 
--- the last form, the elements and the values of the forms at them, and those at which the last form is positive with their degrees
+-- the last form, the elements and the values of the forms at them, and those at which the last form is positive with the values at them and their degrees
 pub record SideLists : Type 0 where
   pub last : Vector
   pub elements : List Vector
   pub columns : ℕ
   pub values : List Vector
   pub rising : List Vector
+  pub rising_values : List Vector
   pub degrees : List ℕ
 
 -- an irreducible of the vectors at which the rows and the last form are at least 0
 abbrev pub IsSideElement : List Vector → Vector → Vector → Type 0
 IsSideElement rows last = IsElement (length last) (rows ++ last ∷ [])
 
--- irreducibles of a side, each once and not more than the limit, with their values, and those at which the last form is positive with their degrees
+-- irreducibles of a side, each once and not more than the limit, with their values, and those at which the last form is positive with the values at them and their degrees
 pub record IsSide (limit : ℕ) (rows : List Vector) (s : SideLists) : Type 0 where
   pub columns : s.columns ≡ length rows + 1
   pub values : s.values ≡ map (values_at (rows ++ s.last ∷ [])) s.elements
@@ -34,6 +35,7 @@ pub record IsSide (limit : ℕ) (rows : List Vector) (s : SideLists) : Type 0 wh
   pub within : length s.elements ≤ limit
   pub rising : Each (λ v. Contains s.elements v × (pos 0 <ℤ dot s.last v)) s.rising
   pub all_rising : (v : Vector) → Contains s.elements v → pos 0 <ℤ dot s.last v → Contains s.rising v
+  pub rising_values : s.rising_values ≡ map (values_at (rows ++ s.last ∷ [])) s.rising
   pub degrees : AllZip (λ v d. (dot (total (length s.last) rows) v ≡ pos d) × (d < 2 ^ 127)) s.rising s.degrees
 
 -- no elements
@@ -62,13 +64,13 @@ IsOfferRefusal bound limit rows last Offered TooMany = MoreThan limit (IsSideEle
 IsOfferRefusal bound limit rows last Offered (Stopped stage) = ⊥
 IsOfferRefusal bound limit rows last Offered NoMemory = ⊤
 
--- the vector stands with its degree at the end of those at which the last value is positive, where its own is; nothing else changed
+-- the vector stands with its values and its degree at the end of those at which the last value is positive, where its own is; nothing else changed
 pub record IsNoted (count : ℕ) (x vs : Vector) (old new : SideLists) : Type 0 where
   pub last : new.last ≡ old.last
   pub elements : new.elements ≡ old.elements
   pub columns : new.columns ≡ old.columns
   pub values : new.values ≡ old.values
-  pub noted : ((pos 0 <ℤ entry vs count) × (new.rising ≡ old.rising ++ x ∷ []) × (new.degrees ≡ old.degrees ++ measure (take count vs) ∷ []) × (measure (take count vs) < 2 ^ 127)) ⊎ ((¬ (pos 0 <ℤ entry vs count)) × (new.rising ≡ old.rising) × (new.degrees ≡ old.degrees))
+  pub noted : ((pos 0 <ℤ entry vs count) × (new.rising ≡ old.rising ++ x ∷ []) × (new.degrees ≡ old.degrees ++ measure (take count vs) ∷ []) × (measure (take count vs) < 2 ^ 127) × (new.rising_values ≡ old.rising_values ++ vs ∷ [])) ⊎ ((¬ (pos 0 <ℤ entry vs count)) × (new.rising ≡ old.rising) × (new.degrees ≡ old.degrees) × (new.rising_values ≡ old.rising_values))
 
 -- the same refusal, where no stage was told
 abbrev pub IsWorkOf : Num → Work → Type 0

@@ -1,16 +1,15 @@
 // Both sides of a new row, until no sum of one element of each is left to be looked at.
-ghost use Rattle.std.specs.Prelude.{◌≡◌, ◌<◌, ◌++◌, ◌^◌, length, Contains, MatchResult};
+ghost use Rattle.std.specs.Prelude.{◌≡◌, ◌<◌, ◌^◌, length, Contains, MatchResult};
 ghost use Rattle.std.specs.List.{AllByRecursion as Each};
 ghost use Rattle.nz_spec.specs.Vectors.{HasWidth};
 ghost use Rattle.nz_dual.specs.DualStages.{IsInsertRefusal};
 ghost use Rattle.nz_dual.specs.Sides.{IsSide, Keeps, Handles, HasGrown};
-ghost use Rattle.nz_range.specs.Measures.{SomeLarge};
-ghost use Rattle.nz_dual.specs.PairSums.{IsNext, AreOneWidth, AreSums};
+ghost use Rattle.nz_dual.specs.PairSums.{IsNext};
 ghost use Rattle.nz_dual.specs.Closures.{IsPart, IsComplete, IsOfferedRefusal};
 
 use crate::sides::{Side, work_of};
 use crate::sums::{next_degree, sums_of};
-use nz_vec::{Num, Rows, Scalar, Work};
+use nz_vec::{Rows, Scalar, Work};
 use std::alloc::Global;
 
 /// Offers each of the vectors to both sides.
@@ -64,7 +63,7 @@ pub(crate) fn close<T: Scalar>(
             Some(degree) => degree,
             None => return Ok(()),
         };
-        let sums = match sums_between(alloc, up, down, degree) {
+        let sums = match sums_of(alloc, rows, up, down, degree) {
             Ok(sums) => sums,
             Err(refusal) => return Err(work_of(refusal)),
         };
@@ -83,28 +82,4 @@ fn next_of<T: Scalar>(up: &Side<T>, down: &Side<T>, last: u128) -> Option<u128>
     ensures { IsNext last up.now.degrees down.now.degrees result }
 {
     next_degree(up.degrees.as_slice(), down.degrees.as_slice(), last)
-}
-
-/// The sums of this degree of two elements, one of each side and both rising there.
-fn sums_between<T: Scalar>(
-    alloc: Global,
-    up: &Side<T>,
-    down: &Side<T>,
-    degree: u128,
-) -> Result<Rows<T>, Num>
-    requires up_lengths { length up.now.degrees ≡ length up.now.rising }
-    requires down_lengths { length down.now.degrees ≡ length down.now.rising }
-    requires up { Each (λ d. d < 2 ^ 127) up.now.degrees }
-    requires down { Each (λ d. d < 2 ^ 127) down.now.degrees }
-    requires widths { AreOneWidth up.now.rising down.now.rising }
-    ensures { MatchResult result (AreSums up.now.rising up.now.degrees down.now.rising down.now.degrees degree (length up.now.rising)) (λ e. e ≡ Num.Range → SomeLarge T.HALF (Contains (up.now.rising ++ down.now.rising))) }
-{
-    sums_of(
-        alloc,
-        &up.rising,
-        up.degrees.as_slice(),
-        &down.rising,
-        down.degrees.as_slice(),
-        degree,
-    )
 }

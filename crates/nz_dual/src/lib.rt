@@ -7,6 +7,7 @@
 
 mod closing;
 mod ordering;
+mod pairs;
 mod running;
 mod sides;
 mod stages;

@@ -1,9 +1,10 @@
 // One side of a new row.
-ghost use Rattle.std.specs.Prelude.{◌≡◌, ◌∷◌, ◌++◌, [], ◌<◌, ◌≤◌, ◌^◌, length, take, IfOk, MatchResult};
+ghost use Rattle.std.specs.Prelude.{◌≡◌, ◌∷◌, ◌++◌, [], ◌<◌, ◌≤◌, ◌^◌, length, take, slice_index, slice_index_or, IfOk, MatchResult, true};
 ghost use Rattle.std.specs.List.{AllByRecursion as Each};
 ghost use Rattle.nz_spec.specs.Vectors.{values_at, HasWidth};
 ghost use Rattle.nz_range.specs.Measures.{measure};
 ghost use Rattle.nz_reducer.specs.Tables.{NoneIsBelow};
+ghost use Rattle.nz_dual.specs.PairValues.{SomeIsBelow};
 ghost use Rattle.nz_dual.specs.Sides.{IsEmpty, IsSide, IsSideElement, IsNoted, IsWorkOf, Keeps, Handles, HasGrown, IsOfferRefusal};
 
 use crate::values::{size_of, values_before};
@@ -22,16 +23,19 @@ pub(crate) struct Side<T: Scalar> {
     pub(crate) table: DegreeTable<T>,
     /// The elements at which the last form is positive.
     pub(crate) rising: Rows<T>,
+    /// The values of the forms at these.
+    pub(crate) rising_values: Rows<T>,
     /// The degrees of these: the sums of the values of the rows so far.
     pub(crate) degrees: Vec<u128>,
 }
 
 impl<T: Scalar> Model for Side<T> {
+    ghost use Rattle.nz_dual.specs.PairValues.{SomeIsBelow};
     ghost use Rattle.nz_dual.specs.Sides.{SideLists};
 
     ghost Value = { SideLists };
 
-    ghost view = { λ s. record { last = s.last; elements = s.elements; columns = s.table.columns; values = s.table.rows; rising = s.rising; degrees = s.degrees.items } };
+    ghost view = { λ s. record { last = s.last; elements = s.elements; columns = s.table.columns; values = s.table.rows; rising = s.rising; rising_values = s.rising_values; degrees = s.degrees.items } };
 }
 
 impl<T: Scalar> Side<T> {
@@ -52,6 +56,7 @@ impl<T: Scalar> Side<T> {
             elements: Rows::new(alloc),
             table,
             rising: Rows::new(alloc),
+            rising_values: Rows::new(alloc),
             degrees: Vec::new(alloc),
         })
     }
@@ -115,7 +120,48 @@ impl<T: Scalar> Side<T> {
         within(self.elements.len(), limit)
     }
 
-    /// Lists a vector with its degree, where the last of its values is positive.
+    /// How many elements rise: the last form is positive at them.
+    pub(crate) fn rising_count(&self) -> usize
+        ensures { result ≡ length self.now.rising }
+    {
+        self.rising.len()
+    }
+
+    pub(crate) fn rising_at(&self, place: usize) -> &Row<T>
+        requires { place < length self.now.rising }
+        ensures { result.now ≡ slice_index_or self.now.rising place [] }
+    {
+        self.rising.at(place)
+    }
+
+    /// The values of the forms at a rising element.
+    pub(crate) fn rising_values_at(&self, place: usize) -> &Row<T>
+        requires { place < length self.now.rising_values }
+        ensures { result.now ≡ slice_index_or self.now.rising_values place [] }
+    {
+        self.rising_values.at(place)
+    }
+
+    /// The degree of a rising element.
+    pub(crate) fn degree_at(&self, place: usize) -> u128
+        requires { place < length self.now.degrees }
+        ensures { result ≡ slice_index self.now.degrees place }
+    {
+        self.degrees[place]
+    }
+
+    /// Whether an element has at most these values.
+    pub(crate) fn has_below(&self, values: &Row<T>) -> bool
+        requires { length values.now ≡ self.now.columns }
+        ensures { result ≡ true → SomeIsBelow self.now.values values.now }
+    {
+        match self.table.first(values) {
+            Some(_) => true,
+            None => false,
+        }
+    }
+
+    /// Lists a vector with its values and its degree, where the last of its values is positive.
     fn note_rising(&mut self, count: usize, x: &Row<T>, values: &Row<T>) -> Result<(), Num>
         requires { count < length values.now }
         ensures { MatchResult result (λ _. IsNoted count x.now values.now self.old self.new) (λ e. e ≡ Num.Range → (2 ^ 127 ≤ measure (take count values.now)) × (count < 2 ^ 64)) }
@@ -132,6 +178,14 @@ impl<T: Scalar> Side<T> {
             Err(refusal) => return Err(Num::from(refusal)),
         };
         match self.rising.push(copy) {
+            Ok(()) => {}
+            Err(refusal) => return Err(Num::from(refusal)),
+        }
+        let values_copy = match values.try_copy() {
+            Ok(copy) => copy,
+            Err(refusal) => return Err(Num::from(refusal)),
+        };
+        match self.rising_values.push(values_copy) {
             Ok(()) => {}
             Err(refusal) => return Err(Num::from(refusal)),
         }

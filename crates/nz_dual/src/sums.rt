@@ -1,10 +1,13 @@
 // The sums of one vector of each side, in the order of their degrees.
-ghost use Rattle.std.specs.Prelude.{◌≡◌, ◌∷◌, ◌++◌, [], ℕ, ◌<◌, ◌+◌, ◌^◌, length, Contains, MatchResult};
+ghost use Rattle.std.specs.Prelude.{◌≡◌, ◌∷◌, ◌++◌, [], ℕ, ◌<◌, ◌+◌, ◌^◌, length, slice_index, slice_index_or, Contains, MatchResult};
 ghost use Rattle.std.specs.List.{AllByRecursion as Each};
-ghost use Rattle.nz_spec.specs.Vectors.{plus, HasWidth};
+ghost use Rattle.nz_spec.specs.Vectors.{plus};
 ghost use Rattle.nz_range.specs.Measures.{SomeLarge};
-ghost use Rattle.nz_dual.specs.PairSums.{IsAhead, IsNotSooner, IsSooner, IsNext, AreOneWidth, AddsSums, AreSums};
+ghost use Rattle.nz_dual.specs.PairSums.{IsAhead, IsNotSooner, IsSooner, IsNext, AddsSums, AreSums};
+ghost use Rattle.nz_dual.specs.Closures.{AreParts, IsSettled};
 
+use crate::pairs::is_settled;
+use crate::sides::Side;
 use nz_vec::{Num, Row, Rows, Scalar};
 use std::alloc::Global;
 
@@ -48,33 +51,21 @@ pub(crate) fn next_degree(firsts: &[u128], seconds: &[u128], last: u128) -> Opti
     best
 }
 
-/// The sums of one vector of each list whose degrees have this sum.
+/// The sums of this degree of two elements, one of each side and both rising there, but for some that
+/// neither side needs.
 pub(crate) fn sums_of<T: Scalar>(
     alloc: Global,
-    firsts: &Rows<T>,
-    first_degrees: &[u128],
-    seconds: &Rows<T>,
-    second_degrees: &[u128],
+    rows: &Rows<T>,
+    up: &Side<T>,
+    down: &Side<T>,
     wanted: u128,
 ) -> Result<Rows<T>, Num>
-    requires first_lengths { length first_degrees.now ≡ length firsts.now }
-    requires second_lengths { length second_degrees.now ≡ length seconds.now }
-    requires first_degrees { Each (λ d. d < 2 ^ 127) first_degrees.now }
-    requires second_degrees { Each (λ d. d < 2 ^ 127) second_degrees.now }
-    requires widths { AreOneWidth firsts.now seconds.now }
-    ensures { MatchResult result (AreSums firsts.now first_degrees.now seconds.now second_degrees.now wanted (length firsts.now)) (λ e. e ≡ Num.Range → SomeLarge T.HALF (Contains (firsts.now ++ seconds.now))) }
+    requires { AreParts rows.now up.now down.now }
+    ensures { MatchResult result (AreSums (IsSettled rows.now up.now down.now) up.now.rising up.now.degrees down.now.rising down.now.degrees wanted (length up.now.rising)) (λ e. e ≡ Num.Range → SomeLarge T.HALF (Contains (up.now.rising ++ down.now.rising))) }
 {
     let mut sums = Rows::new(alloc);
-    for place in 0..firsts.len() {
-        match add_sums(
-            alloc,
-            &mut sums,
-            firsts.at(place),
-            first_degrees[place],
-            seconds,
-            second_degrees,
-            wanted,
-        ) {
+    for place in 0..up.rising_count() {
+        match add_sums(alloc, rows, up, down, place, wanted, &mut sums) {
             Ok(()) => {}
             Err(refusal) => return Err(refusal),
         }
@@ -82,28 +73,31 @@ pub(crate) fn sums_of<T: Scalar>(
     Ok(sums)
 }
 
-/// Appends the sums of one vector and those of the others whose degrees with its own have this sum.
+/// Appends the sums of one rising element and those of the other side whose degrees with its own have
+/// this sum, but for some that neither side needs.
 fn add_sums<T: Scalar>(
     alloc: Global,
-    sums: &mut Rows<T>,
-    x: &Row<T>,
-    degree: u128,
-    others: &Rows<T>,
-    degrees: &[u128],
+    rows: &Rows<T>,
+    up: &Side<T>,
+    down: &Side<T>,
+    first: usize,
     wanted: u128,
+    sums: &mut Rows<T>,
 ) -> Result<(), Num>
-    requires lengths { length degrees.now ≡ length others.now }
-    requires degree { degree < 2 ^ 127 }
-    requires degrees { Each (λ d. d < 2 ^ 127) degrees.now }
-    requires widths { Each (HasWidth (length x.now)) others.now }
-    ensures { MatchResult result (λ _. AddsSums x.now degree others.now degrees.now wanted (length others.now) sums.old sums.new) (λ e. e ≡ Num.Range → SomeLarge T.HALF (Contains (x.now ∷ others.now))) }
+    requires part { AreParts rows.now up.now down.now }
+    requires first { first < length up.now.rising }
+    ensures { MatchResult result (λ _. AddsSums (IsSettled rows.now up.now down.now) (slice_index_or up.now.rising first []) (slice_index up.now.degrees first) down.now.rising down.now.degrees wanted (length down.now.rising) sums.old sums.new) (λ e. e ≡ Num.Range → SomeLarge T.HALF (Contains (slice_index_or up.now.rising first [] ∷ down.now.rising))) }
 {
-    for place in 0..others.len() {
-        if degree + degrees[place] == wanted {
-            match add_sum(alloc, sums, x, others.at(place)) {
-                Ok(()) => {}
-                Err(refusal) => return Err(refusal),
-            }
+    for place in 0..down.rising_count() {
+        if up.degree_at(first) + down.degree_at(place) != wanted {
+            continue;
+        }
+        if is_settled(alloc, rows, up, down, first, place) {
+            continue;
+        }
+        match add_sum(alloc, sums, up.rising_at(first), down.rising_at(place)) {
+            Ok(()) => {}
+            Err(refusal) => return Err(refusal),
         }
     }
     Ok(())

@@ -1,5 +1,5 @@
 use Rattle.std.proofs.Common.{◌∙◌, refl}
-use Rattle.nz_dual.proofs.ClosureLemmas.{degrees_length, degrees_bound, widths, complete_at_end, part_next, handles_sums_next, all_keep_up, all_keep_down, all_wide, side_width, no_sums, close_refused, sums_refused}
+use Rattle.nz_dual.proofs.ClosureLemmas.{degrees_bound, complete_at_end, part_next, handles_sums_next, all_keep_up, all_keep_down, all_wide, side_width, no_sums, close_refused, sums_refused}
 use Rattle.nz_dual.proofs.closing.close.Goals as goal
 
 pub next_of-requires-clause-up : goal.next_of-requires-clause-up
@@ -8,20 +8,8 @@ next_of-requires-clause-up g c = degrees_bound c.args.limit c.args.rows.now c.de
 pub next_of-requires-clause-down : goal.next_of-requires-clause-down
 next_of-requires-clause-down g c = degrees_bound c.args.limit c.args.rows.now c.degrees.down c.degrees.invariant.part.down_side
 
-pub sums_between-requires-clause-up_lengths : goal.sums_between-requires-clause-up_lengths
-sums_between-requires-clause-up_lengths g c = degrees_length c.args.limit c.args.rows.now c.degrees.up c.degrees.invariant.part.up_side
-
-pub sums_between-requires-clause-down_lengths : goal.sums_between-requires-clause-down_lengths
-sums_between-requires-clause-down_lengths g c = degrees_length c.args.limit c.args.rows.now c.degrees.down c.degrees.invariant.part.down_side
-
-pub sums_between-requires-clause-up : goal.sums_between-requires-clause-up
-sums_between-requires-clause-up g c = degrees_bound c.args.limit c.args.rows.now c.degrees.up c.degrees.invariant.part.up_side
-
-pub sums_between-requires-clause-down : goal.sums_between-requires-clause-down
-sums_between-requires-clause-down g c = degrees_bound c.args.limit c.args.rows.now c.degrees.down c.degrees.invariant.part.down_side
-
-pub sums_between-requires-clause-widths : goal.sums_between-requires-clause-widths
-sums_between-requires-clause-widths g c = widths c.args.limit c.args.rows.now c.degrees.up c.degrees.down c.degrees.invariant.part
+pub sums_of-requires : goal.sums_of-requires
+sums_of-requires g c = (c.args.limit, c.degrees.invariant.part)
 
 pub offer_all-requires-clause-rows_wide : goal.offer_all-requires-clause-rows_wide
 offer_all-requires-clause-rows_wide g c = c.degrees.invariant.part.stage.rows_wide
