@@ -14,8 +14,9 @@ use std::marker::Model;
 use std::rc::RcSlice;
 
 /// A table that knows its entries by the sums of their values. What is at most given values has no
-/// larger sum than they have, so a search compares no entry with a larger one. An entry without a sum
-/// in the type is always compared, and so is every entry where the given values have none.
+/// larger sum than they have, so a search compares no entry with a larger one. `first` compares every
+/// entry without a sum in the type, and every entry where the given values have none; the quick
+/// searches pass over what a word of levels rules out.
 #[derive(Drop)]
 pub struct DegreeTable<T: Scalar> {
     columns: usize,
