@@ -6,7 +6,7 @@ use Rattle.nz_spec.specs.Order.{ListsOnce}
 use Rattle.nz_order.specs.Totals.{total}
 use Rattle.nz_vec.specs.declared.answers.Work.{Work}
 use Rattle.nz_dual.specs.DualStages.{IsStageList}
-use Rattle.nz_dual.specs.Sides.{SideLists, IsSide, IsSideElement, Handles, IsOfferRefusal}
+use Rattle.nz_dual.specs.Sides.{SideLists, IsSide, IsSideElement, HasGrown, Handles, IsOfferRefusal}
 
 -- the sides of a row and of its opposite, where the irreducibles of the stage so far stand on their sides
 pub record IsPart (limit : ℕ) (rows : List Vector) (up down : SideLists) : Type 0 where
@@ -34,6 +34,13 @@ HandlesSums rows up down degree ups downs = (p n : Vector) → Contains ups p �
 pub record IsComplete (limit : ℕ) (rows : List Vector) (s : SideLists) : Type 0 where
   pub lists : ListsOnce (IsSideElement rows s.last) s.elements
   pub within : length s.elements ≤ limit
+
+-- both sides have grown, and the vector is one of the elements of each where it is irreducible there
+pub record AreOffered (limit : ℕ) (rows : List Vector) (x : Vector) (up up' down down' : SideLists) : Type 0 where
+  pub up_grown : HasGrown limit rows up up'
+  pub down_grown : HasGrown limit rows down down'
+  pub up_handles : Handles rows up.last up'.elements x
+  pub down_handles : Handles rows down.last down'.elements x
 
 -- why vectors are not taken in by one of two sides
 abbrev pub IsOfferedRefusal : ℤ → ℕ → List Vector → Vector → Vector → (Vector → Type 0) → Work → Type 0

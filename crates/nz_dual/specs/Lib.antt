@@ -1,5 +1,6 @@
 pub mod DualStages
 pub mod FirstStage
+pub mod Levels
 pub mod Sides
 pub mod PairSums
 pub mod PairValues

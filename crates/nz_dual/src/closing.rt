@@ -5,11 +5,12 @@ ghost use Rattle.nz_spec.specs.Vectors.{HasWidth};
 ghost use Rattle.nz_dual.specs.DualStages.{IsInsertRefusal};
 ghost use Rattle.nz_dual.specs.Sides.{IsSide, Keeps, Handles, HasGrown};
 ghost use Rattle.nz_dual.specs.PairSums.{IsNext};
-ghost use Rattle.nz_dual.specs.Closures.{IsPart, IsComplete, IsOfferedRefusal};
+ghost use Rattle.nz_dual.specs.Closures.{IsPart, IsComplete, IsOfferedRefusal, AreOffered};
 
+use crate::levels::level_of;
 use crate::sides::{Side, work_of};
 use crate::sums::{next_degree, sums_of};
-use nz_vec::{Rows, Scalar, Work};
+use nz_vec::{Row, Rows, Scalar, Work};
 use std::alloc::Global;
 
 /// Offers each of the vectors to both sides.
@@ -31,16 +32,45 @@ pub(crate) fn offer_all<T: Scalar>(
     ensures { MatchResult result (λ _. HasGrown limit rows.now up.old up.new × HasGrown limit rows.now down.old down.new × Each (Handles rows.now up.old.last up.new.elements) vectors.now × Each (Handles rows.now down.old.last down.new.elements) vectors.now) (IsOfferedRefusal T.HALF limit rows.now up.old.last down.old.last (Contains vectors.now)) }
 {
     for place in 0..vectors.len() {
-        match up.offer(alloc, rows, vectors.at(place), limit) {
-            Ok(()) => {}
-            Err(refusal) => return Err(refusal),
-        }
-        match down.offer(alloc, rows, vectors.at(place), limit) {
+        match offer_both(alloc, rows, vectors.at(place), up, down, limit) {
             Ok(()) => {}
             Err(refusal) => return Err(refusal),
         }
     }
     Ok(())
+}
+
+/// Offers a vector to both sides. One at which the new row is 0 has the same values on both, which
+/// they then share.
+fn offer_both<T: Scalar>(
+    alloc: Global,
+    rows: &Rows<T>,
+    x: &Row<T>,
+    up: &mut Side<T>,
+    down: &mut Side<T>,
+    limit: u32,
+) -> Result<(), Work>
+    requires rows_wide { Each (HasWidth (length x.now)) rows.now }
+    requires above { length up.old.last ≡ length x.now }
+    requires below { length down.old.last ≡ length x.now }
+    requires up { IsSide limit rows.now up.old }
+    requires down { IsSide limit rows.now down.old }
+    requires keeps_up { Keeps rows.now up.old.last up.old.elements x.now }
+    requires keeps_down { Keeps rows.now down.old.last down.old.elements x.now }
+    ensures { MatchResult result (λ _. AreOffered limit rows.now x.now up.old up.new down.old down.new) (IsOfferedRefusal T.HALF limit rows.now up.old.last down.old.last (λ v. v ≡ x.now)) }
+{
+    match level_of(alloc, rows, &up.last, &down.last, x) {
+        Some(level) => {
+            match up.offer_level(rows, x, &level.values, &level.slice, limit) {
+                Ok(()) => down.offer_level(rows, x, &level.values, &level.slice, limit),
+                Err(refusal) => Err(refusal),
+            }
+        }
+        None => match up.offer(alloc, rows, x, limit) {
+            Ok(()) => down.offer(alloc, rows, x, limit),
+            Err(refusal) => Err(refusal),
+        },
+    }
 }
 
 /// Offers the sums of two elements, one of each side and both rising there, degree by degree. What

@@ -6,6 +6,7 @@
 #![tactic(auto)]
 
 mod closing;
+mod levels;
 mod ordering;
 mod pairs;
 mod running;

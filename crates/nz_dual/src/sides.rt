@@ -1,17 +1,20 @@
 // One side of a new row.
-ghost use Rattle.std.specs.Prelude.{◌≡◌, ◌∷◌, ◌++◌, [], ◌<◌, ◌≤◌, ◌^◌, length, take, slice_index, slice_index_or, IfOk, MatchResult, true};
+ghost use Rattle.std.specs.Rc.{rc_slice_items};
+ghost use Rattle.std.specs.Prelude.{◌≡◌, ◌∷◌, ◌++◌, [], pos, map, ◌<◌, ◌≤◌, ◌^◌, length, take, slice_index, slice_index_or, IfOk, MatchResult, true};
 ghost use Rattle.std.specs.List.{AllByRecursion as Each};
-ghost use Rattle.nz_spec.specs.Vectors.{values_at, HasWidth};
+ghost use Rattle.nz_spec.specs.Vectors.{dot, values_at, HasWidth};
 ghost use Rattle.nz_range.specs.Measures.{measure};
 ghost use Rattle.nz_reducer.specs.Tables.{NoneIsBelow};
 ghost use Rattle.nz_dual.specs.PairValues.{SomeIsBelow};
 ghost use Rattle.nz_dual.specs.Sides.{IsEmpty, IsSide, IsSideElement, IsNoted, IsWorkOf, Keeps, Handles, HasGrown, IsOfferRefusal};
 
+use crate::levels::shared;
 use crate::values::{size_of, values_before};
 use nz_reducer::{DegreeTable, Table};
 use nz_vec::{NoMemory, Num, Row, Rows, Scalar, Work, is_negative, is_positive};
 use std::alloc::Global;
 use std::marker::Model;
+use std::rc::RcSlice;
 
 /// The vectors at which the rows so far and one more form are at least 0, as far as their
 /// irreducibles are known. Of two sides the further forms are the new row and its opposite.
@@ -88,12 +91,65 @@ impl<T: Scalar> Side<T> {
         };
         match self.table.first(&values) {
             Some(_) => Ok(()),
-            None => self.keep(rows, x, &values, limit),
+            None => self.keep_alone(rows, x, &values, limit),
+        }
+    }
+
+    /// The same of a vector at which the last form is 0, with its values, which the table then shares.
+    pub(crate) fn offer_level(
+        &mut self,
+        rows: &Rows<T>,
+        x: &Row<T>,
+        values: &Row<T>,
+        slice: &RcSlice<T>,
+        limit: u32,
+    ) -> Result<(), Work>
+        requires rows_wide { Each (HasWidth (length self.old.last)) rows.now }
+        requires width { length x.now ≡ length self.old.last }
+        requires side { IsSide limit rows.now self.old }
+        requires keeps { Keeps rows.now self.old.last self.old.elements x.now }
+        requires level { dot self.old.last x.now ≡ pos 0 }
+        requires values { values.now ≡ values_at rows.now x.now ++ pos 0 ∷ [] }
+        requires slice { map T.integer (rc_slice_items slice.now) ≡ values.now }
+        ensures { MatchResult result (λ _. HasGrown limit rows.now self.old self.new × Handles rows.now self.old.last self.new.elements x.now) (IsOfferRefusal T.HALF limit rows.now self.old.last (λ v. v ≡ x.now)) }
+    {
+        match self.table.first(values) {
+            Some(_place) => Ok(()),
+            None => self.keep(rows, x, values, slice, limit),
+        }
+    }
+
+    /// Keeps a vector with these values, which no other side holds.
+    fn keep_alone(
+        &mut self,
+        rows: &Rows<T>,
+        x: &Row<T>,
+        values: &Row<T>,
+        limit: u32,
+    ) -> Result<(), Work>
+        requires rows_wide { Each (HasWidth (length self.old.last)) rows.now }
+        requires side { IsSide limit rows.now self.old }
+        requires values { values.now ≡ values_at (rows.now ++ self.old.last ∷ []) x.now }
+        requires new { NoneIsBelow self.old.values values.now }
+        requires irreducible { IsSideElement rows.now self.old.last x.now }
+        ensures { MatchResult result (λ _. IsSide limit rows.now self.new × (self.new.last ≡ self.old.last) × (self.new.elements ≡ self.old.elements ++ x.now ∷ [])) (IsOfferRefusal T.HALF limit rows.now self.old.last (λ v. v ≡ x.now)) }
+    {
+        match shared(values) {
+            Ok(slice) => self.keep(rows, x, values, &slice, limit),
+            Err(refusal) => Err(Work::from(refusal)),
         }
     }
 
     /// Keeps a vector with these values.
-    fn keep(&mut self, rows: &Rows<T>, x: &Row<T>, values: &Row<T>, limit: u32) -> Result<(), Work>
+    fn keep(
+        &mut self,
+        rows: &Rows<T>,
+        x: &Row<T>,
+        values: &Row<T>,
+        slice: &RcSlice<T>,
+        limit: u32,
+    ) -> Result<(), Work>
+        requires slice { map T.integer (rc_slice_items slice.now) ≡ values.now }
         requires rows_wide { Each (HasWidth (length self.old.last)) rows.now }
         requires side { IsSide limit rows.now self.old }
         requires values { values.now ≡ values_at (rows.now ++ self.old.last ∷ []) x.now }
@@ -105,7 +161,7 @@ impl<T: Scalar> Side<T> {
             Ok(()) => {}
             Err(refusal) => return Err(work_of(refusal)),
         }
-        match self.table.put(values) {
+        match self.table.put_shared(slice) {
             Ok(()) => {}
             Err(refusal) => return Err(Work::from(refusal)),
         }

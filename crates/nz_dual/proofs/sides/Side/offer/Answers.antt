@@ -21,7 +21,7 @@ returns-in-Some-first g c = (
 
 pub returns : goal.returns
 returns g c =
-    match_map _ _ _ _ c.keep.result
-    (λ u k. grown_kept c.args.limit c.args.rows.now c.args.self.now c.keep.new.self c.args.x.now k.0 k.1 k.2)
+    match_map _ _ _ _ c.keep_alone.result
+    (λ u k. grown_kept c.args.limit c.args.rows.now c.args.self.now c.keep_alone.new.self c.args.x.now k.0 k.1 k.2)
     (λ e n. n)
-    c.keep.ensures
+    c.keep_alone.ensures
