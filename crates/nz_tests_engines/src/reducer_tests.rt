@@ -1,4 +1,5 @@
-ghost use Rattle.std.specs.Prelude.{◌≡◌, pos, negsuc, [], ◌∷◌, IfOk};
+ghost use Rattle.std.specs.Prelude.{◌≡◌, pos, negsuc, [], ◌∷◌, length, IfOk};
+ghost use Rattle.std.specs.Rc.{rc_slice_items};
 ghost use Rattle.std.specs.List.{AllByRecursion as Each};
 ghost use Rattle.nz_spec.specs.Vectors.{HasWidth};
 
@@ -6,6 +7,7 @@ use nz_reducer::{DegreeTable, ListTable, Table, irreducibles};
 use nz_vec::{Row, Rows, Scalar};
 use std::alloc::Global;
 use std::process::Abort;
+use std::rc::RcSlice;
 use std::test::Fail;
 
 // The points of the half-open parallelepiped of (1, 3) and (2, 1), and these two; and what is left of them.
@@ -102,11 +104,61 @@ fn degree_table<T: Scalar>(alloc: Global) -> Result<DegreeTable<T>, Fail>
     Ok(table)
 }
 
+// The slice of two values.
+fn slice<T: Scalar>(alloc: Global, first: i64, second: i64) -> Result<RcSlice<T>, Fail>
+    ensures { IfOk result (λ s. length (rc_slice_items s) ≡ 2) }
+{
+    let mut values = match Vec::with_capacity(alloc, 2) {
+        Ok(values) => values,
+        Err(_) => return Err(Fail::from("no memory")),
+    };
+    values.push_reserved(T::of_i64(first));
+    values.push_reserved(T::of_i64(second));
+    match RcSlice::from_vec(values) {
+        Ok(slice) => Ok(slice),
+        Err(_) => Err(Fail::from("no memory")),
+    }
+}
+
+// The same table, whose entries are shared.
+fn shared_table<T: Scalar>(alloc: Global) -> Result<DegreeTable<T>, Fail>
+    ensures { IfOk result (λ t. t.columns ≡ 2) }
+{
+    let mut table = DegreeTable::new(alloc, 2)?;
+    for entries in &ENTRIES {
+        table.put_shared(&slice(alloc, entries[0], entries[1])?)?;
+    }
+    Ok(table)
+}
+
+// A thousand entries with the sum 1000.
+fn level_table<T: Scalar>(alloc: Global) -> Result<DegreeTable<T>, Fail>
+    ensures { IfOk result (λ t. t.columns ≡ 2) }
+{
+    let mut table = DegreeTable::new(alloc, 2)?;
+    for first in 1..1001 {
+        table.put(&row(alloc, first, 1000i64.saturating_sub(first))?)?;
+    }
+    Ok(table)
+}
+
+// No entry with a larger sum than the values is compared.
+fn counts<T: Scalar>(rt: &impl Abort, alloc: Global) -> Result<(), Fail> {
+    let mut table = level_table::<T>(alloc)?;
+    assert!(rt; table.first_counted(&row(alloc, 1, 1)?) == (None, 0));
+    assert!(rt; table.first_counted(&row(alloc, 0, 1000)?) == (None, 1000));
+    assert!(rt; table.has_any_below(&row(alloc, 9, 995)?));
+    assert!(rt; !table.has_below(&row(alloc, 9, 995)?, T::of_i64(999)));
+    Ok(())
+}
+
 fn finds_by_sums<T: Scalar>(rt: &impl Abort, alloc: Global) -> Result<(), Fail> {
     let table = degree_table::<T>(alloc)?;
+    let shared = shared_table::<T>(alloc)?;
     for (values, place) in SOUGHT {
         let values = row::<T>(alloc, values[0], values[1])?;
         assert!(rt; table.first(&values) == place);
+        assert!(rt; shared.first(&values) == place);
     }
     Ok(())
 }
@@ -135,5 +187,7 @@ fn worked_rows(rt: HostRuntime) -> Result<(), Fail> {
 fn tables_by_sums(rt: HostRuntime) -> Result<(), Fail> {
     finds_by_sums::<i64>(&rt, rt.alloc())?;
     finds_by_sums::<i128>(&rt, rt.alloc())?;
+    counts::<i64>(&rt, rt.alloc())?;
+    counts::<i128>(&rt, rt.alloc())?;
     finds_without_sum(&rt, rt.alloc())
 }
