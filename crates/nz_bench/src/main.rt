@@ -7,6 +7,7 @@
 
 mod forms;
 mod measures;
+mod tables;
 
 use forms::forms_of;
 use measures::{Engine, Outcome, engine_of, measured};
@@ -23,7 +24,9 @@ fn main(rt: HostRuntime) -> io::Result<()> {
     };
     let engine = match engine {
         Some(engine) => engine,
-        None => return println!(rt; "usage: nz_bench rays|walk|reduce|cover|dual < FILE"),
+        None => return println!(rt;
+            "usage: nz_bench rays|walk|reduce|cover|dual|list|sums|any|counted < FILE"
+        ),
     };
     let text = io::read_to_string(rt.alloc(), rt.stdin())?;
     let file = match read(rt.alloc(), text.as_bytes()) {

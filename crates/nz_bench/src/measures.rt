@@ -6,6 +6,7 @@ ghost use Rattle.nz_spec.specs.Covers.{vectors_at};
 ghost use Rattle.nz_pointed.specs.Pointed.{IsSimplexOf};
 ghost use Rattle.nz_reducer.specs.Reducers.{AreSeparated};
 
+use crate::tables::{Asking, asked, asking_of};
 use nz_classes::walk;
 use nz_cover::place;
 use nz_dual::dual;
@@ -29,6 +30,8 @@ pub enum Engine {
     Cover,
     /// The irreducibles of the whole vectors at which all rows are at least 0, by the dual algorithm.
     Dual,
+    /// What a table keeps of candidates of the width of the rows, or how often it compares.
+    Table(Asking),
 }
 
 /// The engine with this name.
@@ -48,7 +51,10 @@ pub fn engine_of(word: &[u8]) -> Option<Engine> {
     if word == b"dual".as_slice() {
         return Some(Engine::Dual);
     }
-    None
+    match asking_of(word) {
+        Some(asking) => Some(Engine::Table(asking)),
+        None => None,
+    }
 }
 
 /// What came.
@@ -62,6 +68,10 @@ pub enum Outcome {
 pub fn measured(alloc: Global, engine: Engine, rows: &Rows<i64>, width: usize) -> Outcome
     requires { Each (HasWidth width) rows.now }
 {
+    match engine {
+        Engine::Table(asking) => return tabled(alloc, asking, width),
+        _ => {}
+    }
     let simplex = match start(alloc, rows, width) {
         Ok(Pointed::Simplex(simplex)) => simplex,
         Ok(Pointed::Line(_)) => return Outcome::Line,
@@ -73,10 +83,19 @@ pub fn measured(alloc: Global, engine: Engine, rows: &Rows<i64>, width: usize) -
         Engine::Reduce => reduced(alloc, rows, &simplex, width),
         Engine::Cover => covered(alloc, rows, &simplex, width),
         Engine::Dual => irreducible(alloc, rows, &simplex, width),
+        Engine::Table(_) => None,
     };
     match count {
         Some(count) => Outcome::Vectors(count),
         None => Outcome::Refused,
+    }
+}
+
+// What the table keeps of its candidates, or how often it compares.
+fn tabled(alloc: Global, asking: Asking, width: usize) -> Outcome {
+    match asked(alloc, asking, width) {
+        Ok(count) => Outcome::Vectors(count),
+        Err(_) => Outcome::Refused,
     }
 }
 
