@@ -144,7 +144,7 @@ some_pairs mode w w' file h = elim h [ inl n ↦ ([], n) | inr k ↦ (_, k.1.was
 
 crowd_pairs : (mode : Mode) (w w' : Watched) (file : FileData) (limit : ℕ) → IsCrowd mode (system_of file) limit 0 w w' → WasToldPairs false w w'
 crowd_pairs Primal w w' file limit h = all_pairs w w' h.2
-crowd_pairs Dual w w' file limit h = (_, h.telling.was_told)
+crowd_pairs Dual w w' file limit h = (_, h.2.was_told)
 
 pub says_refused : (goals : List Goal) (limit : ℕ) (w w' : Watched) (input : Text) (r : Status) → IsCause goals limit w w' input r → WatchSays r w w'
 says_refused goals limit w w' input Done h = absurd h
