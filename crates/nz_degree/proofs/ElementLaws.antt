@@ -8,11 +8,12 @@ use Rattle.nz_spec.specs.Vectors.{Vector, HasWidth}
 use Rattle.nz_spec.specs.Order.{degree, StandsBefore, Pairwise, IsListOf, ListsOnce}
 use Rattle.nz_spec.specs.Systems.{System, IsMember}
 use Rattle.nz_spec.specs.Monoids.{IsModuleGenerator}
-use Rattle.nz_spec.specs.Elements.{IsHilbertElement, IsHilbertBasis, IsOfDegree, AreDegreeOne, AreModuleGenerators, IsFirstNotPositive}
+use Rattle.nz_spec.specs.Elements.{IsHilbertElement, IsHilbertBasis, IsOfDegree, AreModuleGenerators, IsFirstNotPositive}
 use Rattle.nz_spec.proofs.ListLaws.{Each-contains, Each-from_contains, Each-weaker}
 use Rattle.nz_order.specs.Picks.{Picks}
 use Rattle.nz_order.proofs.OrderLaws.{stands_cases}
 use Rattle.nz_order.proofs.SortLaws.{Picks-list, IsListOf-where, permuted_once}
+use Rattle.nz_further.specs.Denominators.{IsDenominator, AreDegreeOneElements}
 use Rattle.nz_degree.specs.Degrees.{IsPlaceOfFirst, IsInOrder}
 
 below : (a b : ℤ) → a ≤ℤ pos 0 → pos 0 <ℤ b → a <ℤ b
@@ -42,13 +43,20 @@ positive_has_none s grading given xs basis positive x f =
     let e = same_grading f.grading grading (sym f.given ∙ given) in
     not_both (degree grading x) (Each-contains (λ y. pos 0 <ℤ degree grading y) xs x positive (basis.each x f.first.has)) (subst (λ (g : Vector). degree g x ≤ℤ pos 0) e f.not_positive)
 
-pub ones_are_elements : (s : System) (grading : Vector) → s.grading ≡ Some grading → (xs ones : List Vector) → IsHilbertBasis s xs → Picks (λ x. degree grading x ≡ pos 1) xs ones → AreDegreeOne s (pos 1) ones
-ones_are_elements s grading given xs ones basis p = record {
+pub ones_are_elements : (s : System) (grading : Vector) → s.grading ≡ Some grading → (xs ones : List Vector) → IsHilbertBasis s xs → (g : ℤ) → IsDenominator grading xs g → Picks (λ x. degree grading x ≡ g) xs ones → AreDegreeOneElements s g ones
+ones_are_elements s grading given xs ones basis g denominator p = record {
   grading = grading;
   given = given;
-  list = IsListOf-where (StandsBefore s.grading) (λ x. IsHilbertElement s x × (degree grading x ≡ pos 1)) (IsOfDegree s grading (pos 1))
-      (λ x h. record { element = h.0; of_degree = h.1 }) (λ x h. (h.element, h.of_degree)) ones
-      (Picks-list (StandsBefore s.grading) (IsHilbertElement s) (λ x. degree grading x ≡ pos 1) xs ones basis p);
+  basis = xs;
+  is_basis = basis;
+  denominator = denominator;
+  of_degree = record {
+    grading = grading;
+    given = given;
+    list = IsListOf-where (StandsBefore s.grading) (λ x. IsHilbertElement s x × (degree grading x ≡ g)) (IsOfDegree s grading g)
+        (λ x h. record { element = h.0; of_degree = h.1 }) (λ x h. (h.element, h.of_degree)) ones
+        (Picks-list (StandsBefore s.grading) (IsHilbertElement s) (λ x. degree grading x ≡ g) xs ones basis p);
+  };
 }
 
 -- what is different, and not in the wrong order, is in order

@@ -1,4 +1,5 @@
 pub mod DegreeLists
+pub mod Divisors
 pub mod Firsts
 pub mod RankLaws
 pub mod ElementLaws
