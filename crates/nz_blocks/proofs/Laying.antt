@@ -5,7 +5,7 @@ use Rattle.std.proofs.lemmas.List.{append-nil, take_all}
 use Rattle.std.specs.Prelude.{Result, Ok, Err, OnOk}
 use Rattle.nz_blocks.specs.Lines.{line}
 use Rattle.std.proofs.lemmas.Grind.{flat_map-append}
-use Rattle.std.specs.List.{AllByRecursion as Each, flat_map}
+use Rattle.std.specs.List.{flat_map}
 use Rattle.std.specs.Fmt.{signed_decimal}
 use Rattle.nz_vec.specs.Texts.{Text}
 use Rattle.nz_spec.specs.Vectors.{Vector}
@@ -150,3 +150,8 @@ row_whole width r k old out out' (Ok u) l p q =
     let n : length (cells width 0 r) ≤ k = omega (arith, length-cells width 0 r) in
     q ∙ ap (λ (t : Text). t ++ 10 ∷ []) (p ∙ ap (λ (cs : List Text). old ++ spaced cs) (take_all k (cells width 0 r) n)) ∙ append_assoc old (spaced (cells width 0 r)) (10 ∷ [])
 row_whole width r k old out out' (Err e) l p q = tt
+
+-- what follows from what a call left, where memory sufficed
+pub on_ok_map : {T E : Type 0} (result : Result T E) (P Q : Type 0) → (P → Q) → OnOk result P → OnOk result Q
+on_ok_map (Ok x) P Q f h = f h
+on_ok_map (Err e) P Q f h = tt

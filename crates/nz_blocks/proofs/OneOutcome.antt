@@ -1,7 +1,8 @@
 -- A text is the text of one outcome.
-use Rattle.std.proofs.Common.{◌≡◌, ℕ, ◌+◌, ◌^◌, ◌<◌, ◌≤◌, Bool, true, false, cond, nat_eq, List, [], ◌∷◌, ◌++◌, length, get_or, map, refl, sym, ap, ap₂, subst, ◌∙◌, append_assoc, arith, codes, Some, None, Option, option_map, IfSome, eq-eqb, append-nil}
+use Rattle.std.proofs.Common.{◌≡◌, ℕ, ◌+◌, ◌^◌, ◌<◌, ◌≤◌, Bool, true, false, ℤ, cond, nat_eq, List, [], ◌∷◌, ◌++◌, length, get_or, map, refl, sym, ap, ap₂, subst, ◌∙◌, append_assoc, arith, codes, Some, None, Option, option_map, IfSome, eq-eqb, append-nil, FitsSigned}
+use Rattle.std.specs.Int.{w128}
 use Rattle.std.specs.List.{AllByRecursion as Each, flat_map}
-use Rattle.std.specs.Fmt.{decimal}
+use Rattle.std.specs.Fmt.{decimal, signed_decimal}
 use Rattle.std.proofs.lemmas.List.{append_cancel_left, length-map}
 use Rattle.nz_vec.specs.Texts.{Text}
 use Rattle.nz_spec.specs.Vectors.{Vector}
@@ -10,9 +11,9 @@ use Rattle.nz_blocks.specs.Beginnings.{First, IsDigit, IsHeading, BeginsBlock}
 use Rattle.nz_blocks.specs.Held.{IsHeldRow, IsHeldList, AreHeldRows, IsHeldAnswer, IsHeld}
 use Rattle.nz_blocks.specs.Outcomes.{OutcomeData, IsOutcome, Asked, IsAsked, number}
 use Rattle.nz_blocks.specs.AskedLines.{asked_line}
-use Rattle.nz_blocks.specs.Output.{text_of, head, level_word, block, block_if_some, simplices_block, asked_block, from_one, hilbert_heading, rays_heading, element_blocks, cone_blocks}
+use Rattle.nz_blocks.specs.Output.{text_of, space_lines, denominator_line, head, level_word, block, block_if_some, simplices_block, asked_block, from_one, hilbert_heading, rays_heading, element_blocks, cone_blocks}
 use Rattle.nz_blocks.specs.Sections.{headings, lists_of, sections}
-use Rattle.nz_blocks.proofs.NumberTexts.{decimal_one, numeral}
+use Rattle.nz_blocks.proofs.NumberTexts.{decimal_one, numeral, signed_one}
 use Rattle.nz_blocks.proofs.RowTexts.{heading_one, heading_split, begins_one, block_if_some_one, block_begins}
 use Rattle.nz_blocks.proofs.AnswerTexts.{IsPlace, IsPlain, asked_lines_one}
 
@@ -185,15 +186,15 @@ simplices_same : (xs : Option (List (List ℕ))) → simplices_block xs ≡ bloc
 simplices_same None = refl
 simplices_same (Some xs) = refl
 
-pub text_sections : (o : OutcomeData) → text_of o ≡ head o.amb o.level ++ (sections (headings o.level) (lists_of o) ++ asked_block o.level o.asked)
+pub text_sections : (o : OutcomeData) → text_of o ≡ head o.amb o.level o.denominator ++ (sections (headings o.level) (lists_of o) ++ asked_block o.level o.asked)
 text_sections o =
-    ap (λ (i : Text). head o.amb o.level ++ element_blocks o ++ cone_blocks o ++ (block_if_some (codes " extreme generators:") o.generators ++ i) ++ asked_block o.level o.asked) (simplices_same o.simplices)
-    ∙ regrouped (head o.amb o.level) (block_if_some (codes " module generators:") o.modules) (block_if_some (hilbert_heading o.level) o.hilbert) (block_if_some (codes " degree 1 elements:") o.degree_one)
+    ap (λ (i : Text). head o.amb o.level o.denominator ++ element_blocks o ++ cone_blocks o ++ (block_if_some (codes " extreme generators:") o.generators ++ i) ++ asked_block o.level o.asked) (simplices_same o.simplices)
+    ∙ regrouped (head o.amb o.level o.denominator) (block_if_some (codes " module generators:") o.modules) (block_if_some (hilbert_heading o.level) o.hilbert) (block_if_some (codes " degree 1 elements:") o.degree_one)
     (block_if_some (codes " vertices of polyhedron:") o.vertices) (block_if_some (rays_heading o.level) o.rays) (block_if_some (codes " support hyperplanes:") o.support) (block_if_some (codes " equations:") o.equations)
     (block_if_some (codes " extreme generators:") o.generators) (block_if_some (codes " simplices:") (option_map (map from_one) o.simplices)) (asked_block o.level o.asked)
 
-pub head_split : (amb : ℕ) (level : Bool) (s : Text) → head amb level ++ s ≡ codes "amb_space " ++ (decimal amb ++ 10 ∷ (level_word level ++ 10 ∷ s))
-head_split amb level s =
+pub space_split : (amb : ℕ) (level : Bool) (s : Text) → space_lines amb level ++ s ≡ codes "amb_space " ++ (decimal amb ++ 10 ∷ (level_word level ++ 10 ∷ s))
+space_split amb level s =
     append_assoc (codes "amb_space " ++ decimal amb ++ codes "\n") (level_word level ++ 10 ∷ []) s
     ∙ append_assoc (codes "amb_space " ++ decimal amb) (10 ∷ []) ((level_word level ++ 10 ∷ []) ++ s)
     ∙ append_assoc (codes "amb_space ") (decimal amb) (10 ∷ ((level_word level ++ 10 ∷ []) ++ s))
@@ -205,9 +206,9 @@ level_one false false s t e = (let cut : 10 ∷ s ≡ 10 ∷ t = append_cancel_l
 level_one true false s t e = (let b : 105 ≡ 104 = ap (λ (z : Text). get_or z 0 0) e in absurd (omega (arith, b)))
 level_one false true s t e = (let b : 104 ≡ 105 = ap (λ (z : Text). get_or z 0 0) e in absurd (omega (arith, b)))
 
-head_one : (m n : ℕ) (l k : Bool) (s t : Text) → m ≤ 64 → n ≤ 64 → head m l ++ s ≡ head n k ++ t → (m ≡ n) × (l ≡ k) × (s ≡ t)
-head_one m n l k s t p q e =
-    let both = sym (head_split m l s) ∙ e ∙ head_split n k t in
+space_one : (m n : ℕ) (l k : Bool) (s t : Text) → m ≤ 64 → n ≤ 64 → space_lines m l ++ s ≡ space_lines n k ++ t → (m ≡ n) × (l ≡ k) × (s ≡ t)
+space_one m n l k s t p q e =
+    let both = sym (space_split m l s) ∙ e ∙ space_split n k t in
     let front = append_cancel_left (codes "amb_space ") (decimal m ++ 10 ∷ (level_word l ++ 10 ∷ s)) (decimal n ++ 10 ∷ (level_word k ++ 10 ∷ t)) both in
     let c = decimal_one m n (10 ∷ (level_word l ++ 10 ∷ s)) (10 ∷ (level_word k ++ 10 ∷ t)) (omega (arith, p)) (omega (arith, q)) (bare (level_word l ++ 10 ∷ s)) (bare (level_word k ++ 10 ∷ t)) front in
     let rest : level_word l ++ 10 ∷ s ≡ level_word k ++ 10 ∷ t = cc (c.1) in
@@ -216,6 +217,54 @@ head_one m n l k s t p q e =
   where
     bare : (x : Text) → ¬ First IsDigit (10 ∷ x)
     bare x d = absurd (omega (arith, d.0))
+
+-- ---- the third line
+
+-- a text whose first byte is that of the third line
+abbrev pub IsGrading : Text → Type 0
+IsGrading s = First (λ b. b ≡ 103) s
+
+newline_other : ◌≡◌ {A = ℕ} 10 103 → ⊥
+newline_other e = absurd (omega (arith, e))
+
+sections_bare : (hs : List Text) (xs : List (Option (List Vector))) (s : Text) → ¬ IsGrading s → ¬ IsGrading (sections hs xs ++ s)
+sections_bare [] xs s n f = n f
+sections_bare (h ∷ hs) [] s n f = n f
+sections_bare (h ∷ hs) (None ∷ xs) s n f = sections_bare hs xs s n f
+sections_bare (h ∷ hs) (Some rows ∷ xs) s n f = newline_other f
+
+asked_bare : (level : Bool) (xs : Option (List Asked)) → ¬ IsGrading (asked_block level xs)
+asked_bare level None f = f
+asked_bare level (Some xs) f = newline_other f
+
+-- behind the lines above the blocks none begins like the third
+pub blocks_bare : (o : OutcomeData) → ¬ IsGrading (sections (headings o.level) (lists_of o) ++ asked_block o.level o.asked)
+blocks_bare o = sections_bare (headings o.level) (lists_of o) (asked_block o.level o.asked) (asked_bare o.level o.asked)
+
+pub denominator_split : (g : ℤ) (s : Text) → denominator_line (Some g) ++ s ≡ codes "grading denominator " ++ (signed_decimal g ++ 10 ∷ s)
+denominator_split g s = append_assoc (codes "grading denominator " ++ signed_decimal g) (10 ∷ []) s ∙ append_assoc (codes "grading denominator ") (signed_decimal g) (10 ∷ s)
+
+denominator_one : (g h : Option ℤ) (s t : Text) → IfSome g (FitsSigned w128) → IfSome h (FitsSigned w128) → ¬ IsGrading s → ¬ IsGrading t → denominator_line g ++ s ≡ denominator_line h ++ t → (g ≡ h) × (s ≡ t)
+denominator_one None None s t p q u v e = (refl, e)
+denominator_one None (Some h) s t p q u v e = absurd (u (subst IsGrading (sym e) refl))
+denominator_one (Some g) None s t p q u v e = absurd (v (subst IsGrading e refl))
+denominator_one (Some g) (Some h) s t p q u v e =
+    let both = sym (denominator_split g s) ∙ e ∙ denominator_split h t in
+    let front = append_cancel_left (codes "grading denominator ") (signed_decimal g ++ 10 ∷ s) (signed_decimal h ++ 10 ∷ t) both in
+    let c = signed_one g h (10 ∷ s) (10 ∷ t) p q (bare s) (bare t) front in
+    let rest : s ≡ t = cc (c.1) in
+    (ap (λ (z : ℤ). Some z) c.0, rest)
+  where
+    bare : (x : Text) → ¬ First IsDigit (10 ∷ x)
+    bare x d = absurd (omega (arith, d.0))
+
+head_one : (m n : ℕ) (l k : Bool) (g h : Option ℤ) (s t : Text) → m ≤ 64 → n ≤ 64 → IfSome g (FitsSigned w128) → IfSome h (FitsSigned w128) → ¬ IsGrading s → ¬ IsGrading t → head m l g ++ s ≡ head n k h ++ t → (m ≡ n) × (l ≡ k) × (g ≡ h) × (s ≡ t)
+head_one m n l k g h s t p q f d u v e =
+    let left = append_assoc (space_lines m l) (denominator_line g) s in
+    let right = append_assoc (space_lines n k) (denominator_line h) t in
+    let c = space_one m n l k (denominator_line g ++ s) (denominator_line h ++ t) p q (sym left ∙ e ∙ right) in
+    let r = denominator_one g h s t f d u v c.2 in
+    (c.0, c.1, r.0, r.1)
 
 pub few_rows : (rows : Option (List Vector)) → AreHeldRows rows → number rows < 2 ^ 64
 few_rows None h = omega arith
@@ -278,32 +327,33 @@ simplices_one None (Some ys) e = absurd cc
 simplices_one (Some xs) None e = absurd cc
 simplices_one (Some xs) (Some ys) e = (let same : map from_one xs ≡ map from_one ys = cc (e) in ap (λ (x : List (List ℕ)). Some x) (lists_same xs ys same))
 
-abbrev made : ℕ → Bool → Option (List Vector) → Option (List Vector) → Option (List Vector) → Option (List Vector) → Option (List Vector) → Option (List Vector) → Option (List Vector) → Option (List Vector) → Option (List (List ℕ)) → Option (List Asked) → OutcomeData
-made a b c d e f g h i j k l = record { amb = a; level = b; modules = c; hilbert = d; degree_one = e; vertices = f; rays = g; support = h; equations = i; generators = j; simplices = k; asked = l }
+abbrev made : ℕ → Bool → Option ℤ → Option (List Vector) → Option (List Vector) → Option (List Vector) → Option (List Vector) → Option (List Vector) → Option (List Vector) → Option (List Vector) → Option (List Vector) → Option (List (List ℕ)) → Option (List Asked) → OutcomeData
+made a b n c d e f g h i j k l = record { amb = a; level = b; denominator = n; modules = c; hilbert = d; degree_one = e; vertices = f; rays = g; support = h; equations = i; generators = j; simplices = k; asked = l }
 
 -- outcomes are one where all their fields are
-pub same_fields : (o p : OutcomeData) → o.amb ≡ p.amb → o.level ≡ p.level → o.modules ≡ p.modules → o.hilbert ≡ p.hilbert → o.degree_one ≡ p.degree_one → o.vertices ≡ p.vertices → o.rays ≡ p.rays → o.support ≡ p.support → o.equations ≡ p.equations → o.generators ≡ p.generators → o.simplices ≡ p.simplices → o.asked ≡ p.asked → o ≡ p
-same_fields o p e0 e1 e2 e3 e4 e5 e6 e7 e8 e9 e10 e11 =
-    ap (λ (x : ℕ). made x o.level o.modules o.hilbert o.degree_one o.vertices o.rays o.support o.equations o.generators o.simplices o.asked) e0
-    ∙ ap (λ (x : Bool). made p.amb x o.modules o.hilbert o.degree_one o.vertices o.rays o.support o.equations o.generators o.simplices o.asked) e1
-    ∙ ap (λ (x : Option (List Vector)). made p.amb p.level x o.hilbert o.degree_one o.vertices o.rays o.support o.equations o.generators o.simplices o.asked) e2
-    ∙ ap (λ (x : Option (List Vector)). made p.amb p.level p.modules x o.degree_one o.vertices o.rays o.support o.equations o.generators o.simplices o.asked) e3
-    ∙ ap (λ (x : Option (List Vector)). made p.amb p.level p.modules p.hilbert x o.vertices o.rays o.support o.equations o.generators o.simplices o.asked) e4
-    ∙ ap (λ (x : Option (List Vector)). made p.amb p.level p.modules p.hilbert p.degree_one x o.rays o.support o.equations o.generators o.simplices o.asked) e5
-    ∙ ap (λ (x : Option (List Vector)). made p.amb p.level p.modules p.hilbert p.degree_one p.vertices x o.support o.equations o.generators o.simplices o.asked) e6
-    ∙ ap (λ (x : Option (List Vector)). made p.amb p.level p.modules p.hilbert p.degree_one p.vertices p.rays x o.equations o.generators o.simplices o.asked) e7
-    ∙ ap (λ (x : Option (List Vector)). made p.amb p.level p.modules p.hilbert p.degree_one p.vertices p.rays p.support x o.generators o.simplices o.asked) e8
-    ∙ ap (λ (x : Option (List Vector)). made p.amb p.level p.modules p.hilbert p.degree_one p.vertices p.rays p.support p.equations x o.simplices o.asked) e9
-    ∙ ap (λ (x : Option (List (List ℕ))). made p.amb p.level p.modules p.hilbert p.degree_one p.vertices p.rays p.support p.equations p.generators x o.asked) e10
-    ∙ ap (λ (x : Option (List Asked)). made p.amb p.level p.modules p.hilbert p.degree_one p.vertices p.rays p.support p.equations p.generators p.simplices x) e11
+pub same_fields : (o p : OutcomeData) → o.amb ≡ p.amb → o.level ≡ p.level → o.denominator ≡ p.denominator → o.modules ≡ p.modules → o.hilbert ≡ p.hilbert → o.degree_one ≡ p.degree_one → o.vertices ≡ p.vertices → o.rays ≡ p.rays → o.support ≡ p.support → o.equations ≡ p.equations → o.generators ≡ p.generators → o.simplices ≡ p.simplices → o.asked ≡ p.asked → o ≡ p
+same_fields o p e0 e1 en e2 e3 e4 e5 e6 e7 e8 e9 e10 e11 =
+    ap (λ (x : ℕ). made x o.level o.denominator o.modules o.hilbert o.degree_one o.vertices o.rays o.support o.equations o.generators o.simplices o.asked) e0
+    ∙ ap (λ (x : Bool). made p.amb x o.denominator o.modules o.hilbert o.degree_one o.vertices o.rays o.support o.equations o.generators o.simplices o.asked) e1
+    ∙ ap (λ (x : Option ℤ). made p.amb p.level x o.modules o.hilbert o.degree_one o.vertices o.rays o.support o.equations o.generators o.simplices o.asked) en
+    ∙ ap (λ (x : Option (List Vector)). made p.amb p.level p.denominator x o.hilbert o.degree_one o.vertices o.rays o.support o.equations o.generators o.simplices o.asked) e2
+    ∙ ap (λ (x : Option (List Vector)). made p.amb p.level p.denominator p.modules x o.degree_one o.vertices o.rays o.support o.equations o.generators o.simplices o.asked) e3
+    ∙ ap (λ (x : Option (List Vector)). made p.amb p.level p.denominator p.modules p.hilbert x o.vertices o.rays o.support o.equations o.generators o.simplices o.asked) e4
+    ∙ ap (λ (x : Option (List Vector)). made p.amb p.level p.denominator p.modules p.hilbert p.degree_one x o.rays o.support o.equations o.generators o.simplices o.asked) e5
+    ∙ ap (λ (x : Option (List Vector)). made p.amb p.level p.denominator p.modules p.hilbert p.degree_one p.vertices x o.support o.equations o.generators o.simplices o.asked) e6
+    ∙ ap (λ (x : Option (List Vector)). made p.amb p.level p.denominator p.modules p.hilbert p.degree_one p.vertices p.rays x o.equations o.generators o.simplices o.asked) e7
+    ∙ ap (λ (x : Option (List Vector)). made p.amb p.level p.denominator p.modules p.hilbert p.degree_one p.vertices p.rays p.support x o.generators o.simplices o.asked) e8
+    ∙ ap (λ (x : Option (List Vector)). made p.amb p.level p.denominator p.modules p.hilbert p.degree_one p.vertices p.rays p.support p.equations x o.simplices o.asked) e9
+    ∙ ap (λ (x : Option (List (List ℕ))). made p.amb p.level p.denominator p.modules p.hilbert p.degree_one p.vertices p.rays p.support p.equations p.generators x o.asked) e10
+    ∙ ap (λ (x : Option (List Asked)). made p.amb p.level p.denominator p.modules p.hilbert p.degree_one p.vertices p.rays p.support p.equations p.generators p.simplices x) e11
 
 pub one_outcome : (o p : OutcomeData) → IsOutcome o → IsOutcome p → IsHeld o → IsHeld p → text_of o ≡ text_of p → o ≡ p
 one_outcome o p io ip ho hp e =
     let left = sections (headings o.level) (lists_of o) ++ asked_block o.level o.asked in
     let right = sections (headings p.level) (lists_of p) ++ asked_block p.level p.asked in
-    let top = head_one o.amb p.amb o.level p.level left right io.at_most ip.at_most (sym (text_sections o) ∙ e ∙ text_sections p) in
+    let top = head_one o.amb p.amb o.level p.level o.denominator p.denominator left right io.at_most ip.at_most ho.denominator hp.denominator (blocks_bare o) (blocks_bare p) (sym (text_sections o) ∙ e ∙ text_sections p) in
     let level : o.level ≡ p.level = top.1 in
-    let body = subst (λ (k : Bool). sections (headings o.level) (lists_of o) ++ asked_block o.level o.asked ≡ sections (headings k) (lists_of p) ++ asked_block k p.asked) (sym level) top.2 in
+    let body = subst (λ (k : Bool). sections (headings o.level) (lists_of o) ++ asked_block o.level o.asked ≡ sections (headings k) (lists_of p) ++ asked_block k p.asked) (sym level) top.3 in
     let apart = headings_apart o.level in
     let c = sections_one (headings o.level) (lists_of o) (lists_of p) (asked_block o.level o.asked) (asked_block o.level p.asked) apart.0 (held_lists o io ho) (held_lists p ip hp) refl refl
     (none_begins o.level (headings o.level) o.asked apart.1 ho.asked) (none_begins o.level (headings o.level) p.asked apart.1 hp.asked) body in
@@ -319,4 +369,4 @@ one_outcome o p io ip ho hp e =
     let rows : option_map (map from_one) o.simplices ≡ option_map (map from_one) p.simplices = cc (lists) in
     let plain_p = subst (λ (r : Option (List Vector)). IfSome p.asked (Each (λ a. IsPlain (number r) a.1))) (sym hilbert) (asked_plain p p.asked (few_rows p.modules hp.modules) ip.asked) in
     let asked = asked_block_one o.level (number o.hilbert) o.asked p.asked (few_rows o.hilbert ho.hilbert) (asked_plain o o.asked (few_rows o.modules ho.modules) io.asked) plain_p ho.asked hp.asked c.1 in
-    same_fields o p top.0 level modules hilbert degree_one vertices rays support equations generators (simplices_one o.simplices p.simplices rows) asked
+    same_fields o p top.0 level top.2 modules hilbert degree_one vertices rays support equations generators (simplices_one o.simplices p.simplices rows) asked

@@ -1,15 +1,16 @@
 -- Reading blocks, one by one.
-use Rattle.std.proofs.Common.{◌≡◌, ℕ, suc, ◌+◌, ◌<◌, ◌≤◌, Bool, true, false, List, [], ◌∷◌, ◌++◌, length, get_or, drop, refl, sym, ap, subst, ◌∙◌, append_assoc, append-nil, arith, add-one, drop-cons, length-append, Option, codes}
+use Rattle.std.proofs.Common.{◌≡◌, ℕ, suc, ◌+◌, ◌<◌, ◌≤◌, Bool, true, false, List, [], ◌∷◌, ◌++◌, length, get_or, drop, refl, sym, ap, subst, ◌∙◌, append_assoc, append-nil, arith, add-one, drop-cons, length-append, Option, Some, None, ℤ, codes}
 use Rattle.std.specs.List.{AllByRecursion as Each}
 use Rattle.nz_vec.specs.Texts.{Text}
 use Rattle.nz_spec.specs.Vectors.{Vector}
 use Rattle.nz_blocks.specs.Beginnings.{First, IsDigit, IsHeading, BeginsBlock}
 use Rattle.nz_blocks.specs.Held.{AreHeldRows}
-use Rattle.nz_blocks.specs.Output.{block_if_some, level_word, head}
+use Rattle.nz_blocks.specs.Output.{block_if_some, level_word, space_lines, denominator_line}
 use Rattle.nz_blocks.specs.Sections.{headings, sections}
 use Rattle.nz_blocks.specs.Readings.{level_line}
-use Rattle.nz_blocks.proofs.OneOutcome.{AreApart, headings_apart, not_later, head_split}
-use Rattle.std.specs.Fmt.{decimal}
+use Rattle.nz_blocks.proofs.OneOutcome.{AreApart, headings_apart, not_later, space_split, denominator_split}
+use Rattle.std.specs.Fmt.{decimal, signed_decimal}
+use Rattle.std.proofs.lemmas.List.{append_cancel_left}
 
 -- blocks under some headings have been read, those under others are still to come
 pub record AreSections (hs : List Text) (here : Text) (k : ℕ) (items xs : List (Option (List Vector))) (s : Text) : Type 0 where
@@ -116,8 +117,22 @@ pub no_line : (here : Text) (level : Bool) (s one two : Text) → one ≡ codes 
 no_line here level s one two p q e a b =
     no_level here level s e (λ t h. a t (h ∙ ap (λ (x : Text). x ++ t) (sym p))) (λ t h. b t (h ∙ ap (λ (x : Text). x ++ t) (sym q)))
 
-pub head_line : (amb : ℕ) (level : Bool) (s : Text) → head amb level ++ s ≡ codes "amb_space " ++ (decimal amb ++ (level_line level ++ s))
-head_line amb level s = head_split amb level s ∙ ap (λ (t : Text). codes "amb_space " ++ (decimal amb ++ 10 ∷ t)) (sym (append_assoc (level_word level) (10 ∷ []) s))
+pub space_line : (amb : ℕ) (level : Bool) (s : Text) → space_lines amb level ++ s ≡ codes "amb_space " ++ (decimal amb ++ (level_line level ++ s))
+space_line amb level s = space_split amb level s ∙ ap (λ (t : Text). codes "amb_space " ++ (decimal amb ++ 10 ∷ t)) (sym (append_assoc (level_word level) (10 ∷ []) s))
 
 pub line_bare : (level : Bool) (s : Text) → ¬ First IsDigit (level_line level ++ s)
 line_bare level s d = absurd (omega (arith, d.0))
+
+-- where no third line stands there, degrees are not divided
+pub no_denominator : (here : Text) (g : Option ℤ) (s word : Text) → word ≡ codes "grading denominator " → here ≡ denominator_line g ++ s → ((t : Text) → here ≡ word ++ t → ⊥) → (None ≡ g) × (here ≡ s)
+no_denominator here None s word w e n = (refl, e)
+no_denominator here (Some g) s word w e n = absurd (n (signed_decimal g ++ 10 ∷ s) (e ∙ denominator_split g s ∙ ap (λ (t : Text). t ++ (signed_decimal g ++ 10 ∷ s)) (sym w)))
+
+-- and where one does they are, by a number that stands behind it
+pub some_denominator : (here behind : Text) (g : Option ℤ) (s word : Text) → word ≡ codes "grading denominator " → ¬ First (λ b. b ≡ 103) s → here ≡ denominator_line g ++ s → here ≡ word ++ behind → (z : ℤ) × (g ≡ Some z) × (behind ≡ signed_decimal z ++ 10 ∷ s)
+some_denominator here behind None s word w bare e h =
+    let there : s ≡ codes "grading denominator " ++ behind = sym e ∙ h ∙ ap (λ (t : Text). t ++ behind) w in
+    absurd (bare (subst (First (λ b. b ≡ 103)) (sym there) refl))
+some_denominator here behind (Some z) s word w bare e h =
+    let both = sym (h ∙ ap (λ (t : Text). t ++ behind) w) ∙ e ∙ denominator_split z s in
+    (z, refl, append_cancel_left (codes "grading denominator ") behind (signed_decimal z ++ 10 ∷ s) both)

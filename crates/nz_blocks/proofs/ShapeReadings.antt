@@ -1,5 +1,5 @@
 -- Lists by their places, and outcomes by their shapes.
-use Rattle.std.proofs.Common.{◌≡◌, ℕ, zero, suc, ◌+◌, ◌<◌, ◌≤◌, List, [], ◌∷◌, ◌++◌, length, get_or, take, map, refl, sym, ap, ap₂, subst, ◌∙◌, arith, take_all, length-append, IfSome}
+use Rattle.std.proofs.Common.{◌≡◌, ℕ, suc, ◌+◌, ◌<◌, ◌≤◌, List, [], ◌∷◌, ◌++◌, length, get_or, take, map, refl, sym, ap, ap₂, subst, ◌∙◌, arith, take_all, length-append, IfSome}
 use Rattle.std.proofs.lemmas.List.{get_or-map, length-map}
 use Rattle.std.specs.List.{AllByRecursion as Each}
 use Rattle.nz_spec.proofs.ListLaws.{each_at}
@@ -52,14 +52,16 @@ pub shaped : (o : OutcomeData) → IsOutcome o → IsShaped o
 shaped o is = record {
   at_least = is.at_least;
   at_most = is.at_most;
+  denominator = is.denominator;
   rows = (is.modules, (is.hilbert, (is.degree_one, (is.vertices, (is.rays, (is.support, (is.equations, (is.generators, tt))))))));
-  together = record { described = is.described; covered = is.covered; bounded = is.bounded; levelled = is.levelled; parted = is.parted };
+  together = record { described = is.described; covered = is.covered; bounded = is.bounded; levelled = is.levelled; divided = is.divided; parted = is.parted };
 }
 
 pub outcome_is : (o : OutcomeData) → IsShaped o → IfSome o.simplices (Each (Each (λ p. p < number o.generators))) → IfSome o.asked (Each (IsAsked o)) → IsOutcome o
 outcome_is o is places asked = record {
   at_least = is.at_least;
   at_most = is.at_most;
+  denominator = is.denominator;
   modules = is.rows.0;
   hilbert = is.rows.1.0;
   degree_one = is.rows.1.1.0;
@@ -74,5 +76,6 @@ outcome_is o is places asked = record {
   covered = is.together.covered;
   bounded = is.together.bounded;
   levelled = is.together.levelled;
+  divided = is.together.divided;
   parted = is.together.parted;
 }

@@ -40,6 +40,7 @@ pub record IsHeldAnswer (a : Asked) : Type 0 where
 
 -- an outcome that a value of the type `Outcome` can be
 pub record IsHeld (o : OutcomeData) : Type 0 where
+  pub denominator : IfSome o.denominator (FitsSigned w128)
   pub modules : AreHeldRows o.modules
   pub hilbert : AreHeldRows o.hilbert
   pub degree_one : AreHeldRows o.degree_one

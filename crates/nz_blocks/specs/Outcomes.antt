@@ -14,10 +14,11 @@ use Rattle.nz_member.specs.declared.reply.Reply.TheVariants.{Parts, Outside}
 abbrev pub Asked : Type 0
 Asked = Vector × Reply ℤ
 
--- the number after `amb_space`, whether there is a level, and each list where it is wanted; a simplex is a list of places, from 0, of the extreme generators
+-- the number after `amb_space`, whether there is a level, what degrees are divided by where a grading is given, and each list where it is wanted; a simplex is a list of places, from 0, of the extreme generators
 pub record OutcomeData : Type 0 where
   pub amb : ℕ
   pub level : Bool
+  pub denominator : Option ℤ
   pub modules : Option (List Vector)
   pub hilbert : Option (List Vector)
   pub degree_one : Option (List Vector)
@@ -46,6 +47,10 @@ at_level false x = x
 abbrev pub number : {X : Type 0} → Option (List X) → ℕ
 number None = 0
 number (Some xs) = length xs
+
+-- what degrees are divided by is at least 1, where it is there
+abbrev pub IsDivisor : Option ℤ → Type 0
+IsDivisor denominator = IfSome denominator (λ g. pos 1 ≤ℤ g)
 
 -- where the list is wanted, its rows have w entries
 abbrev pub AreRows : ℕ → Option (List Vector) → Type 0
@@ -82,6 +87,7 @@ pub record IsAsked (o : OutcomeData) (a : Asked) : Type 0 where
 pub record IsOutcome (o : OutcomeData) : Type 0 where
   pub at_least : 1 ≤ o.amb
   pub at_most : o.amb ≤ 64
+  pub denominator : IsDivisor o.denominator
   pub modules : AreRows (row_width o) o.modules
   pub hilbert : AreRows (row_width o) o.hilbert
   pub degree_one : AreRows (row_width o) o.degree_one
@@ -96,4 +102,5 @@ pub record IsOutcome (o : OutcomeData) : Type 0 where
   pub covered : is_some o.simplices ≡ is_some o.generators
   pub bounded : is_some o.vertices ≡ is_some o.rays && o.level
   pub levelled : IsSome o.modules → IsTrue o.level
+  pub divided : IsSome o.degree_one → IsSome o.denominator
   pub parted : IsSome o.asked → IsSome o.hilbert × (IsTrue o.level → IsSome o.modules)

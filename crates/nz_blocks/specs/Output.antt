@@ -1,6 +1,7 @@
 -- The text that a run stores.
-use Rattle.std.specs.Prelude.{ℕ, ◌+◌, pos, Bool, true, false, List, [], ◌++◌, length, map, codes, decimal, Option, Some, None}
+use Rattle.std.specs.Prelude.{ℕ, ◌+◌, ℤ, pos, Bool, true, false, List, [], ◌++◌, length, map, codes, decimal, Option, Some, None}
 use Rattle.std.specs.List.{flat_map}
+use Rattle.std.specs.Fmt.{signed_decimal}
 use Rattle.nz_vec.specs.Texts.{Text}
 use Rattle.nz_spec.specs.Vectors.{Vector}
 use Rattle.nz_blocks.specs.Outcomes.{OutcomeData, Asked}
@@ -42,9 +43,18 @@ abbrev pub asked_block : Bool → Option (List Asked) → Text
 asked_block level None = []
 asked_block level (Some asked) = heading_lines (length asked) (codes " asked vectors:") ++ flat_map (asked_line level) asked
 
--- the two lines above the blocks
-abbrev pub head : ℕ → Bool → Text
-head amb level = line (codes "amb_space " ++ decimal amb) ++ line (level_word level)
+-- the first two lines
+abbrev pub space_lines : ℕ → Bool → Text
+space_lines amb level = line (codes "amb_space " ++ decimal amb) ++ line (level_word level)
+
+-- the third line, where a grading is given: what degrees are divided by
+abbrev pub denominator_line : Option ℤ → Text
+denominator_line None = []
+denominator_line (Some g) = line (codes "grading denominator " ++ signed_decimal g)
+
+-- the lines above the blocks
+abbrev pub head : ℕ → Bool → Option ℤ → Text
+head amb level denominator = space_lines amb level ++ denominator_line denominator
 
 abbrev pub hilbert_heading : Bool → Text
 hilbert_heading true = codes " Hilbert basis elements of recession monoid:"
@@ -78,4 +88,4 @@ cover_blocks o = block_if_some (codes " extreme generators:") o.generators ++ si
 
 -- the text of an outcome
 abbrev pub text_of : OutcomeData → Text
-text_of o = head o.amb o.level ++ element_blocks o ++ cone_blocks o ++ cover_blocks o ++ asked_block o.level o.asked
+text_of o = head o.amb o.level o.denominator ++ element_blocks o ++ cone_blocks o ++ cover_blocks o ++ asked_block o.level o.asked

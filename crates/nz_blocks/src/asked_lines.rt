@@ -17,7 +17,7 @@ use nz_member::Reply;
 use nz_vec::{Bytes, Constraint, NoMemory, Row};
 use std::alloc::Global;
 
-fn put_number(out: &mut Bytes, number: i128) -> Result<(), NoMemory>
+pub fn put_number(out: &mut Bytes, number: i128) -> Result<(), NoMemory>
     ensures { OnOk result (out.new ≡ out.old ++ signed_decimal number) }
 {
     let mut buffer = Buffer::new();

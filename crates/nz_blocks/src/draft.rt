@@ -21,6 +21,7 @@ use std::marker::Model;
 pub struct Draft {
     pub amb: u32,
     pub level: bool,
+    pub denominator: Option<i128>,
     pub modules: Option<Rows<i128>>,
     pub hilbert: Option<Rows<i128>>,
     pub degree_one: Option<Rows<i128>>,
@@ -38,7 +39,7 @@ impl Model for Draft {
 
     ghost Value = { OutcomeData };
 
-    ghost view = { λ o. record { amb = o.amb; level = o.level; modules = o.modules; hilbert = o.hilbert; degree_one = o.degree_one; vertices = o.vertices; rays = o.rays; support = o.support; equations = o.equations; generators = o.generators; simplices = o.simplices; asked = o.asked } };
+    ghost view = { λ o. record { amb = o.amb; level = o.level; denominator = o.denominator; modules = o.modules; hilbert = o.hilbert; degree_one = o.degree_one; vertices = o.vertices; rays = o.rays; support = o.support; equations = o.equations; generators = o.generators; simplices = o.simplices; asked = o.asked } };
 }
 
 /// How many rows there are, and 0 where there is no list.
@@ -66,10 +67,11 @@ fn draft_of(
     alloc: Global,
     amb: u32,
     level: bool,
+    denominator: Option<i128>,
     lists: Vec<Option<Rows<i128>>>,
     asked: Option<AskedList>,
 ) -> Result<Draft, BlockRefusal>
-    ensures whole { (o : OutcomeData) → IfSome o.simplices (Each (Each (λ p. p < number o.generators))) → amb ≡ o.amb → level ≡ o.level → lists.items ≡ lists_of o → asked ≡ o.asked → MatchResult result (λ d. d ≡ o) (λ e. e ≡ BlockRefusal.NoMemory) }
+    ensures whole { (o : OutcomeData) → IfSome o.simplices (Each (Each (λ p. p < number o.generators))) → amb ≡ o.amb → level ≡ o.level → denominator ≡ o.denominator → lists.items ≡ lists_of o → asked ≡ o.asked → MatchResult result (λ d. d ≡ o) (λ e. e ≡ BlockRefusal.NoMemory) }
     ensures places { IfOk result (λ d. IfSome d.simplices (Each (Each (λ p. p < number d.generators)))) }
 {
     let mut lists = lists;
@@ -89,6 +91,7 @@ fn draft_of(
     Ok(Draft {
         amb,
         level,
+        denominator,
         modules,
         hilbert,
         degree_one,
@@ -138,6 +141,7 @@ pub fn read_draft(alloc: Global, text: &[u8]) -> Result<Draft, BlockRefusal>
         alloc,
         head.value.amb as u32,
         head.value.level,
+        head.value.denominator,
         sections.value,
         asked,
     )

@@ -6,19 +6,21 @@ use std::marker::Model;
 /// where there is one.
 ///
 /// `equations` come with `support`, `simplices` with `generators`, and `vertices` come with `rays`
-/// where there is a level, as `modules` do only there. `asked` comes with `hilbert`, and with
-/// `modules` where there is a level.
+/// where there is a level, as `modules` do only there. `degree_one` comes with `denominator`, and
+/// `asked` with `hilbert`, and with `modules` where there is a level.
 #[derive(Drop)]
 pub struct Outcome {
     /// The number after `amb_space`, 1 to 64.
     pub amb: u32,
     /// Whether the last entry of each row is a level.
     pub level: bool,
+    /// What degrees are divided by, at least 1, where a grading is given.
+    pub denominator: Option<i128>,
     /// The module generators.
     pub modules: Option<Rows<i128>>,
     /// The Hilbert basis; where there is a level, that of the recession monoid.
     pub hilbert: Option<Rows<i128>>,
-    /// The elements of degree 1 of the Hilbert basis.
+    /// The elements of the Hilbert basis whose degree, divided by the denominator, is 1.
     pub degree_one: Option<Rows<i128>>,
     /// The extreme generators of positive level.
     pub vertices: Option<Rows<i128>>,
@@ -41,7 +43,7 @@ impl Model for Outcome {
 
     ghost Value = { OutcomeData };
 
-    ghost view = { λ o. record { amb = o.amb; level = o.level; modules = o.modules; hilbert = o.hilbert; degree_one = o.degree_one; vertices = o.vertices; rays = o.rays; support = o.support; equations = o.equations; generators = o.generators; simplices = o.simplices; asked = o.asked } };
+    ghost view = { λ o. record { amb = o.amb; level = o.level; denominator = o.denominator; modules = o.modules; hilbert = o.hilbert; degree_one = o.degree_one; vertices = o.vertices; rays = o.rays; support = o.support; equations = o.equations; generators = o.generators; simplices = o.simplices; asked = o.asked } };
 
-    ghost invariant = { λ o. IsOutcome (record { amb = o.amb; level = o.level; modules = o.modules; hilbert = o.hilbert; degree_one = o.degree_one; vertices = o.vertices; rays = o.rays; support = o.support; equations = o.equations; generators = o.generators; simplices = o.simplices; asked = o.asked }) };
+    ghost invariant = { λ o. IsOutcome (record { amb = o.amb; level = o.level; denominator = o.denominator; modules = o.modules; hilbert = o.hilbert; degree_one = o.degree_one; vertices = o.vertices; rays = o.rays; support = o.support; equations = o.equations; generators = o.generators; simplices = o.simplices; asked = o.asked }) };
 }

@@ -29,6 +29,7 @@ fn outcome_of(alloc: Global, draft: Draft) -> Result<Outcome, BlockRefusal>
     Ok(Outcome {
         amb: draft.amb,
         level: draft.level,
+        denominator: draft.denominator,
         modules: draft.modules,
         hilbert: draft.hilbert,
         degree_one: draft.degree_one,

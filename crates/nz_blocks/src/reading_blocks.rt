@@ -1,12 +1,14 @@
 //! Blocks of rows at a place of a text.
-ghost use Rattle.std.specs.Prelude.{◌≡◌, ◌≢◌, ℕ, ◌+◌, ◌<◌, ◌≤◌, ◌^◌, ◌++◌, ◌∷◌, decimal, Option, Some, None, List, drop, length, MatchOption, MatchResult};
+ghost use Rattle.std.specs.Prelude.{◌≡◌, ◌≢◌, ℕ, ℤ, ◌+◌, ◌<◌, ◌≤◌, ◌^◌, ◌++◌, ◌∷◌, decimal, Option, Some, None, List, drop, length, MatchOption, MatchResult, FitsSigned};
+ghost use Rattle.std.specs.Int.{w128};
+ghost use Rattle.std.specs.Fmt.{signed_decimal};
 ghost use Rattle.nz_vec.specs.Texts.{Text};
 ghost use Rattle.nz_spec.specs.Vectors.{Vector};
 ghost use Rattle.nz_blocks.specs.Beginnings.{First, IsHeading, BeginsBlock};
 ghost use Rattle.nz_blocks.specs.Held.{AreHeldRows};
 ghost use Rattle.nz_blocks.specs.Output.{heading_lines, block_if_some};
 
-use crate::reading_numbers::{Found, digits, is_at};
+use crate::reading_numbers::{Found, digits, is_at, number};
 use crate::reading_rows::rows;
 use crate::refusal::BlockRefusal;
 use nz_vec::Rows;
@@ -24,6 +26,23 @@ pub fn behind(text: &[u8], from: usize, bytes: &[u8]) -> Option<usize>
         place += 1;
     }
     Some(place)
+}
+
+/// The number that stands there, with an end of line behind it.
+pub fn number_line(text: &[u8], from: usize) -> Option<Found<i128>>
+    ensures { (z : ℤ) (s : Text) → FitsSigned w128 z → drop from text.now ≡ signed_decimal z ++ 10 ∷ s → MatchOption result ⊥ (λ f. (f.value ≡ z) × (drop f.next text.now ≡ s)) }
+{
+    let found = match number(text, from) {
+        Some(found) => found,
+        None => return None,
+    };
+    if is_at(text, found.next, b'\n') {
+        return Some(Found {
+            value: found.value,
+            next: found.next + 1,
+        });
+    }
+    None
 }
 
 // The number of digits that stand there, with this heading and an end of line.

@@ -11,8 +11,8 @@ ghost use Rattle.nz_blocks.specs.Held.{IsHeldCondition};
 ghost use Rattle.nz_blocks.specs.AskedLines.{demand, outside_text};
 ghost use Rattle.nz_blocks.specs.Readings.{IsEqual};
 
-use crate::reading_blocks::behind;
-use crate::reading_numbers::{Found, is_at, number};
+use crate::reading_blocks::{behind, number_line};
+use crate::reading_numbers::{Found, number};
 use crate::reading_rows::numbers;
 use crate::refusal::BlockRefusal;
 use nz_vec::{Constraint, Row};
@@ -61,14 +61,10 @@ fn value_line(text: &[u8], from: usize) -> Option<usize>
         Some(start) => start,
         None => return None,
     };
-    let value = match number(text, start) {
-        Some(value) => value,
-        None => return None,
-    };
-    if is_at(text, value.next, b'\n') {
-        return Some(value.next + 1);
+    match number_line(text, start) {
+        Some(number) => Some(number.next),
+        None => None,
     }
-    None
 }
 
 /// The constraint that fails, to the end of the line; the value of its form is passed over.

@@ -1,26 +1,28 @@
 //! The head of a text and its blocks of rows.
-ghost use Rattle.std.specs.Prelude.{◌≡◌, ℕ, ◌+◌, ◌<◌, ◌≤◌, ◌++◌, [], List, Bool, Option, drop, length, slice_index_or, MatchOption, MatchResult};
+ghost use Rattle.std.specs.Prelude.{◌≡◌, ℕ, ℤ, ◌+◌, ◌<◌, ◌≤◌, ◌++◌, [], List, Bool, Option, drop, length, slice_index_or, IfSome, FitsSigned, MatchOption, MatchResult};
+ghost use Rattle.std.specs.Int.{w128};
 ghost use Rattle.std.specs.List.{AllByRecursion as Each};
 ghost use Rattle.nz_vec.specs.Texts.{Text};
 ghost use Rattle.nz_spec.specs.Vectors.{Vector};
-ghost use Rattle.nz_blocks.specs.Beginnings.{BeginsBlock};
+ghost use Rattle.nz_blocks.specs.Beginnings.{First, BeginsBlock};
 ghost use Rattle.nz_blocks.specs.Held.{AreHeldRows};
-ghost use Rattle.nz_blocks.specs.Output.{head};
+ghost use Rattle.nz_blocks.specs.Output.{space_lines, denominator_line, head};
 ghost use Rattle.nz_blocks.specs.Sections.{headings, sections};
 ghost use Rattle.nz_blocks.specs.Readings.{level_line};
 
-use crate::reading_blocks::{behind, block};
+use crate::reading_blocks::{behind, block, number_line};
 use crate::reading_numbers::{Found, digits};
 use crate::refusal::BlockRefusal;
 use crate::text::{hilbert_heading_of, rays_heading_of};
 use nz_vec::Rows;
 use std::alloc::Global;
 
-/// What the first two lines say.
+/// What the lines above the blocks say.
 #[derive(Clone, Copy, Drop)]
 pub struct Head {
     pub amb: u128,
     pub level: bool,
+    pub denominator: Option<i128>,
 }
 
 // Whether the second line says that there is a level.
@@ -36,9 +38,38 @@ fn level_at(text: &[u8], from: usize) -> Option<Found<bool>>
     }
 }
 
-/// The two lines with which a text begins.
-pub fn head_of(text: &[u8]) -> Option<Found<Head>>
-    ensures { (amb : ℕ) (level : Bool) (s : Text) → amb ≤ 64 → text.now ≡ head amb level ++ s → MatchOption result ⊥ (λ f. (f.value.amb ≡ amb) × (f.value.level ≡ level) × (drop f.next text.now ≡ s)) }
+// What degrees are divided by, where a line says it.
+fn denominator_at(text: &[u8], from: usize) -> Option<Found<Option<i128>>>
+    ensures { (g : Option ℤ) (s : Text) → IfSome g (FitsSigned w128) → ¬ First (λ b. b ≡ 103) s → drop from text.now ≡ denominator_line g ++ s → MatchOption result ⊥ (λ f. (f.value ≡ g) × (drop f.next text.now ≡ s)) }
+{
+    let start = match behind(text, from, b"grading denominator ".as_slice()) {
+        Some(start) => start,
+        None => {
+            return Some(Found {
+                value: None,
+                next: from,
+            });
+        }
+    };
+    match number_line(text, start) {
+        Some(found) => Some(Found {
+            value: Some(found.value),
+            next: found.next,
+        }),
+        None => None,
+    }
+}
+
+// What the first two lines say.
+#[derive(Clone, Copy, Drop)]
+struct Space {
+    amb: u128,
+    level: bool,
+}
+
+// The two lines with which a text begins.
+fn space_of(text: &[u8]) -> Option<Found<Space>>
+    ensures { (amb : ℕ) (level : Bool) (s : Text) → amb ≤ 64 → text.now ≡ space_lines amb level ++ s → MatchOption result ⊥ (λ f. (f.value.amb ≡ amb) × (f.value.level ≡ level) × (drop f.next text.now ≡ s)) }
 {
     let from = match behind(text, 0, b"amb_space ".as_slice()) {
         Some(from) => from,
@@ -50,11 +81,32 @@ pub fn head_of(text: &[u8]) -> Option<Found<Head>>
     };
     match level_at(text, amb.next) {
         Some(level) => Some(Found {
-            value: Head {
+            value: Space {
                 amb: amb.value,
                 level: level.value,
             },
             next: level.next,
+        }),
+        None => None,
+    }
+}
+
+/// The lines with which a text begins.
+pub fn head_of(text: &[u8]) -> Option<Found<Head>>
+    ensures { (amb : ℕ) (level : Bool) (g : Option ℤ) (s : Text) → amb ≤ 64 → IfSome g (FitsSigned w128) → ¬ First (λ b. b ≡ 103) s → text.now ≡ head amb level g ++ s → MatchOption result ⊥ (λ f. (f.value.amb ≡ amb) × (f.value.level ≡ level) × (f.value.denominator ≡ g) × (drop f.next text.now ≡ s)) }
+{
+    let space = match space_of(text) {
+        Some(space) => space,
+        None => return None,
+    };
+    match denominator_at(text, space.next) {
+        Some(denominator) => Some(Found {
+            value: Head {
+                amb: space.value.amb,
+                level: space.value.level,
+                denominator: denominator.value,
+            },
+            next: denominator.next,
         }),
         None => None,
     }

@@ -3,7 +3,7 @@ ghost use Rattle.std.specs.Prelude.{◌≡◌, ◌&&◌, IsTrue};
 ghost use Rattle.std.specs.Bool.{MatchBool};
 ghost use Rattle.std.specs.List.{AllByRecursion as Each};
 ghost use Rattle.nz_spec.specs.Vectors.{HasWidth};
-ghost use Rattle.nz_blocks.specs.Outcomes.{AreRows, row_width, width_at};
+ghost use Rattle.nz_blocks.specs.Outcomes.{AreRows, IsDivisor, row_width, width_at};
 ghost use Rattle.nz_blocks.specs.Shapes.{GoTogether, IsShaped, row_lists};
 
 use crate::draft::Draft;
@@ -107,6 +107,9 @@ fn go_together(draft: &Draft) -> bool
     if !follows(draft.modules.is_some(), draft.level) {
         return false;
     }
+    if !follows(draft.degree_one.is_some(), draft.denominator.is_some()) {
+        return false;
+    }
     if !follows(draft.asked.is_some(), draft.hilbert.is_some()) {
         return false;
     }
@@ -114,7 +117,17 @@ fn go_together(draft: &Draft) -> bool
     follows(parted, draft.modules.is_some())
 }
 
-/// Whether the number of entries, the rows and the lists are those of an outcome.
+// Whether degrees are divided by 1 or more, where they are.
+fn divisor_fits(denominator: Option<i128>) -> bool
+    ensures { MatchBool result (IsDivisor denominator) (¬ IsDivisor denominator) }
+{
+    match denominator {
+        Some(denominator) => denominator >= 1,
+        None => true,
+    }
+}
+
+/// Whether the number of entries, the denominator, the rows and the lists are those of an outcome.
 pub fn is_shaped(draft: &Draft) -> bool
     ensures { MatchBool result (IsShaped draft.now) (¬ IsShaped draft.now) }
 {
@@ -122,6 +135,9 @@ pub fn is_shaped(draft: &Draft) -> bool
         return false;
     }
     if draft.amb > 64 {
+        return false;
+    }
+    if !divisor_fits(draft.denominator) {
         return false;
     }
     if !lists_fit(draft) {

@@ -2,9 +2,9 @@
 ghost use Rattle.std.specs.Prelude.{◌≡◌, ℕ, ◌++◌, ⊤, length, map, codes, IfOk, IfSome, OnOk, decimal};
 ghost use Rattle.std.specs.List.{AllByRecursion as Each};
 ghost use Rattle.nz_blocks.specs.Outcomes.{HasText};
-ghost use Rattle.nz_blocks.specs.Output.{head, level_word, heading_lines, block, block_if_some, from_one, simplices_block, asked_block, hilbert_heading, rays_heading, hilbert_blocks, element_blocks, ray_blocks, description_blocks, cone_blocks, cover_blocks, text_of};
+ghost use Rattle.nz_blocks.specs.Output.{space_lines, denominator_line, head, level_word, heading_lines, block, block_if_some, from_one, simplices_block, asked_block, hilbert_heading, rays_heading, hilbert_blocks, element_blocks, ray_blocks, description_blocks, cone_blocks, cover_blocks, text_of};
 
-use crate::asked_lines::put_asked_lines;
+use crate::asked_lines::{put_asked_lines, put_number};
 use crate::columns::put_rows;
 use crate::{AskedList, Outcome};
 use itoa::Buffer;
@@ -48,15 +48,42 @@ pub fn rays_heading_of(level: bool) -> &'static [u8]
     }
 }
 
-// The two lines above the blocks.
-fn put_head(out: &mut Bytes, amb: u32, level: bool) -> Result<(), NoMemory>
-    ensures { OnOk result (out.new ≡ out.old ++ head amb level) }
+// The first two lines.
+fn put_space(out: &mut Bytes, amb: u32, level: bool) -> Result<(), NoMemory>
+    ensures { OnOk result (out.new ≡ out.old ++ space_lines amb level) }
 {
     out.push_all(b"amb_space ".as_slice())?;
     put_count(out, amb as usize)?;
     out.push(b'\n')?;
     out.push_all(level_word_of(level))?;
     out.push(b'\n')
+}
+
+// The third line, where a grading is given.
+fn put_denominator(out: &mut Bytes, denominator: Option<i128>) -> Result<(), NoMemory>
+    ensures { OnOk result (out.new ≡ out.old ++ denominator_line denominator) }
+{
+    match denominator {
+        Some(denominator) => {
+            out.push_all(b"grading denominator ".as_slice())?;
+            put_number(out, denominator)?;
+            out.push(b'\n')
+        }
+        None => Ok(()),
+    }
+}
+
+// The lines above the blocks.
+fn put_head(
+    out: &mut Bytes,
+    amb: u32,
+    level: bool,
+    denominator: Option<i128>,
+) -> Result<(), NoMemory>
+    ensures { OnOk result (out.new ≡ out.old ++ head amb level denominator) }
+{
+    put_space(out, amb, level)?;
+    put_denominator(out, denominator)
 }
 
 fn put_heading(out: &mut Bytes, count: usize, heading: &[u8]) -> Result<(), NoMemory>
@@ -237,7 +264,7 @@ pub fn blocks(alloc: Global, outcome: &Outcome) -> Result<Bytes, NoMemory>
     ensures { IfOk result (λ text. text ≡ text_of outcome.now) }
 {
     let mut out = Bytes::new(alloc);
-    put_head(&mut out, outcome.amb, outcome.level)?;
+    put_head(&mut out, outcome.amb, outcome.level, outcome.denominator)?;
     put_element_blocks(alloc, &mut out, outcome)?;
     put_cone_blocks(alloc, &mut out, outcome)?;
     put_cover_blocks(alloc, &mut out, outcome)?;
