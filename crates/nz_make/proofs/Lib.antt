@@ -8,3 +8,5 @@ pub mod Inner
 pub mod HeldSums
 pub mod Triangles
 pub mod PrimalCrowds
+pub mod Fans
+pub mod SupportRows
