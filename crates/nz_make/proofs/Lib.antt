@@ -10,3 +10,5 @@ pub mod Triangles
 pub mod PrimalCrowds
 pub mod Fans
 pub mod SupportRows
+pub mod MadeStages
+pub mod DualCrowds
