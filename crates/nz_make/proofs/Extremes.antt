@@ -41,7 +41,7 @@ made_positive n l v line =
 -- ---- a corner is extreme
 
 -- where entries within 0 and n·c sum up to a multiple of an end, each is the end times its c
-at_end : (n i m a b c d : ℤ) → (i ≡ pos 0) ⊎ (i ≡ n) → pos 0 ≤ℤ a → a ≤ℤ (n *ℤ c) → pos 0 ≤ℤ b → b ≤ℤ (n *ℤ d) → a +ℤ b ≡ m *ℤ i → c +ℤ d ≡ m *ℤ pos 1 → (a ≡ c *ℤ i) × (b ≡ d *ℤ i)
+pub at_end : (n i m a b c d : ℤ) → (i ≡ pos 0) ⊎ (i ≡ n) → pos 0 ≤ℤ a → a ≤ℤ (n *ℤ c) → pos 0 ≤ℤ b → b ≤ℤ (n *ℤ d) → a +ℤ b ≡ m *ℤ i → c +ℤ d ≡ m *ℤ pos 1 → (a ≡ c *ℤ i) × (b ≡ d *ℤ i)
 at_end n i m a b c d (inl z) al ah bl bh e f =
     let s = ap (λ (t : ℤ). m *ℤ t) z ∙ *ℤ-zero m in
     let p = ap (λ (t : ℤ). c *ℤ t) z ∙ *ℤ-zero c in
@@ -55,7 +55,7 @@ at_end n i m a b c d (inr z) al ah bl bh e f =
     let q = ap (λ (t : ℤ). d *ℤ t) z ∙ *ℤ_comm d n in
     (omega (arith, sums, e, s, g, h, p, ah, bh), omega (arith, sums, e, s, g, h, q, ah, bh))
 
-along_corner : (i j c a b : ℤ) → a ≡ c *ℤ i → b ≡ c *ℤ j → IsAlong (i ∷ j ∷ pos 1 ∷ []) (a ∷ b ∷ c ∷ [])
+pub along_corner : (i j c a b : ℤ) → a ≡ c *ℤ i → b ≡ c *ℤ j → IsAlong (i ∷ j ∷ pos 1 ∷ []) (a ∷ b ∷ c ∷ [])
 along_corner i j c a b e f = record {
   multiple = pos 1;
   factor = c;
@@ -67,11 +67,11 @@ along_corner i j c a b e f = record {
 abbrev pub IsEnd : ℕ → ℕ → Type 0
 IsEnd n i = (i ≡ 0) ⊎ (i ≡ n)
 
-whole_end : (n i : ℕ) → IsEnd n i → (pos i ≡ pos 0) ⊎ (pos i ≡ pos n)
+pub whole_end : (n i : ℕ) → IsEnd n i → (pos i ≡ pos 0) ⊎ (pos i ≡ pos n)
 whole_end n i (inl e) = inl (ap pos e)
 whole_end n i (inr e) = inr (ap pos e)
 
-sums_of : (a b c a' b' c' m i j : ℤ) → plus (a ∷ b ∷ c ∷ []) (a' ∷ b' ∷ c' ∷ []) ≡ scaled m (i ∷ j ∷ pos 1 ∷ []) → (a +ℤ a' ≡ m *ℤ i) × (b +ℤ b' ≡ m *ℤ j) × (c +ℤ c' ≡ m *ℤ pos 1)
+pub sums_of : (a b c a' b' c' m i j : ℤ) → plus (a ∷ b ∷ c ∷ []) (a' ∷ b' ∷ c' ∷ []) ≡ scaled m (i ∷ j ∷ pos 1 ∷ []) → (a +ℤ a' ≡ m *ℤ i) × (b +ℤ b' ≡ m *ℤ j) × (c +ℤ c' ≡ m *ℤ pos 1)
 sums_of a b c a' b' c' m i j e = (cc, cc, cc)
 
 corner_splits : (n i j : ℕ) → IsEnd n i → IsEnd n j → SplitsAlong (IsMember (system_of (made_file n))) (point i j)
@@ -126,14 +126,18 @@ first_is_end n (suc i) j l h k s = elim (below_or_from (suc i) n) [
   | inr more ↦ inr (omega (arith, more, h))
 ]
 
-second_is_end : (n i j : ℕ) → 1 ≤ n → i ≤ n → j ≤ n → SplitsAlong (IsMember (system_of (made_file n))) (point i j) → IsEnd n j
-second_is_end n i zero l h k s = inl refl
-second_is_end n i (suc j) l h k s = elim (below_or_from (suc j) n) [
-  | inl less ↦ (let a = (s (pos 2) (point i j) (point i (suc (suc j))) (omega (arith, ints)) (member_of_point n i j l h (omega arith)) (member_of_point n i (suc (suc j)) l h less) (twice_up i j)).1 in
+-- a point of a set that has all points of its line splits along itself only at an end
+pub end_of_splits : (P : Vector → Type 0) (n i j : ℕ) → ((k : ℕ) → k ≤ n → P (point i k)) → j ≤ n → SplitsAlong P (point i j) → IsEnd n j
+end_of_splits P n i zero all h s = inl refl
+end_of_splits P n i (suc j) all h s = elim (below_or_from (suc j) n) [
+  | inl less ↦ (let a = (s (pos 2) (point i j) (point i (suc (suc j))) (omega (arith, ints)) (all j (omega (arith, h))) (all (suc (suc j)) (omega (arith, less))) (twice_up i j)).1 in
       let e = along_entries a.multiple a.factor (pos i) (pos (suc (suc j))) (pos 1) (pos i) (pos (suc j)) a.same in
       absurd (not_along a.multiple a.factor (suc j) a.positive e.2 e.1))
-  | inr more ↦ inr (omega (arith, more, k))
+  | inr more ↦ inr (omega (arith, more, h))
 ]
+
+second_is_end : (n i j : ℕ) → 1 ≤ n → i ≤ n → j ≤ n → SplitsAlong (IsMember (system_of (made_file n))) (point i j) → IsEnd n j
+second_is_end n i j l h = end_of_splits (IsMember (system_of (made_file n))) n i j (λ k within. member_of_point n i k l h within)
 
 pub has_corner : (n i j : ℕ) → IsEnd n i → IsEnd n j → Contains (corners_in_order n) (point i j)
 has_corner n i j (inl e) (inl f) = at_place n 0 0 i j e f (0, omega arith, refl)

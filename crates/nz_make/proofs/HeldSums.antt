@@ -21,10 +21,10 @@ IsHeldSum n x = IsListedOrBoxMember 3 (IsMember (system_of (made_file n))) (corn
 
 -- ---- three corners are independent
 
-zero_of : (n a : ℤ) → pos 1 ≤ℤ n → n *ℤ a ≡ pos 0 → a ≡ pos 0
+pub zero_of : (n a : ℤ) → pos 1 ≤ℤ n → n *ℤ a ≡ pos 0 → a ≡ pos 0
 zero_of n a h e = zero_product n a (λ z. omega (arith, ints, z, h)) e
 
-abbrev IsFree : List Vector → Type 0
+abbrev pub IsFree : List Vector → Type 0
 IsFree vs = (a b c : ℤ) → IsZero (combination 3 (a ∷ b ∷ c ∷ []) vs) → IsZero (a ∷ b ∷ c ∷ [])
 
 zeros : (a b c : ℤ) → a ≡ pos 0 → b ≡ pos 0 → c ≡ pos 0 → IsZero (a ∷ b ∷ c ∷ [])
@@ -47,7 +47,7 @@ module _ (n : ℕ) (l : 1 ≤ n) where
   m : pos 1 ≤ℤ pos n
   m = omega (arith, ints, l)
 
-  lower_left_free : IsFree (point 0 0 ∷ point n 0 ∷ point 0 n ∷ [])
+  pub lower_left_free : IsFree (point 0 0 ∷ point n 0 ∷ point 0 n ∷ [])
   lower_left_free a b c z =
       let e = zero_of (pos n) b m (one_at (pos n) a b c z.0) in
       let f = zero_of (pos n) c m (last_at (pos n) a b c z.1.0) in

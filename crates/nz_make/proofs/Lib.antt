@@ -8,3 +8,7 @@ pub mod Inner
 pub mod HeldSums
 pub mod Triangles
 pub mod PrimalCrowds
+pub mod Fans
+pub mod SupportRows
+pub mod MadeStages
+pub mod DualCrowds

@@ -75,7 +75,7 @@ pub contains_right : {A : Type 0} (xs ys : List A) (x : A) → Contains ys x →
 contains_right [] ys x h = h
 contains_right (y ∷ xs) ys x h = contains_there y x (xs ++ ys) (contains_right xs ys x h)
 
-line_has : (i j m k at : ℕ) → j + k ≡ at → k < m → Contains (line_from i j m) (point i at)
+pub line_has : (i j m k at : ℕ) → j + k ≡ at → k < m → Contains (line_from i j m) (point i at)
 line_has i j zero k at e h = absurd (let f : ⊥ = omega arith in f)
 line_has i j (suc m) zero at e h = subst (λ (t : ℕ). Contains (line_from i j (suc m)) (point i t)) {x = j} {y = at} (omega arith) (contains_here (point i j) (line_from i (suc j) m))
 line_has i j (suc m) (suc k) at e h = contains_there (point i j) (point i at) (line_from i (suc j) m) (line_has i (suc j) m k at (omega arith) (omega arith))
@@ -113,7 +113,7 @@ lines_in_order n i (suc m) = Pairwise-append IsLexBefore (line_from i 0 (suc n))
 
 -- ---- how many, and their sum
 
-line_length : (i j m : ℕ) → length (line_from i j m) ≡ m
+pub line_length : (i j m : ℕ) → length (line_from i j m) ≡ m
 line_length i j zero = refl
 line_length i j (suc m) = ap suc (line_length i (suc j) m)
 

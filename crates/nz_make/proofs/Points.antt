@@ -63,14 +63,14 @@ irreducible_of_point n l x p = subst (IsIrreducible (IsMember (system_of (made_f
 -- ---- an irreducible is a point
 
 -- a number from 0 to n·c is one from 0 to n and one from 0 to n·(c - 1)
-record IsSplit (n a c : ℤ) : Type 0 where
-  part : ℤ
-  low : pos 0 ≤ℤ part
-  high : part ≤ℤ n
-  rest_low : pos 0 ≤ℤ (a -ℤ part)
-  rest_high : (a -ℤ part) ≤ℤ (n *ℤ (c -ℤ pos 1))
+pub record IsSplit (n a c : ℤ) : Type 0 where
+  pub part : ℤ
+  pub low : pos 0 ≤ℤ part
+  pub high : part ≤ℤ n
+  pub rest_low : pos 0 ≤ℤ (a -ℤ part)
+  pub rest_high : (a -ℤ part) ≤ℤ (n *ℤ (c -ℤ pos 1))
 
-split : (n a c : ℤ) → pos 0 ≤ℤ n → pos 2 ≤ℤ c → pos 0 ≤ℤ a → a ≤ℤ (n *ℤ c) → IsSplit n a c
+pub split : (n a c : ℤ) → pos 0 ≤ℤ n → pos 2 ≤ℤ c → pos 0 ≤ℤ a → a ≤ℤ (n *ℤ c) → IsSplit n a c
 split n a c h two low high =
     by_lt_z n a
     (λ (l : n <ℤ a). record { part = n; low = h; high = omega (arith, sums); rest_low = omega (arith, sums, l); rest_high = omega (arith, sums, high, mul-sub n c (pos 1), mul-one n) })

@@ -21,7 +21,7 @@ use Rattle.nz_make.proofs.Inner.{IsInner, IsHeld, zero_held, point_held, inner_h
 use Rattle.nz_make.proofs.HeldSums.{sum_of_held}
 use Rattle.nz_make.proofs.Triangles.{inners, are_inner, has_inner, inners_different, inners_length, all_apart}
 
-abbrev nothing : Vector
+abbrev pub nothing : Vector
 nothing = pos 0 ∷ pos 0 ∷ pos 0 ∷ []
 
 -- n less 2, or 0
@@ -72,7 +72,7 @@ all_held n l = (
 
 -- ---- all different
 
-different_of_order : (xs : List Vector) → Pairwise IsLexBefore xs → Pairwise ◌≢◌ xs
+pub different_of_order : (xs : List Vector) → Pairwise IsLexBefore xs → Pairwise ◌≢◌ xs
 different_of_order [] p = tt
 different_of_order (x ∷ xs) p = (
   Each-weaker (IsLexBefore x) (λ y. x ≢ y) (λ y b e. let c = subst (λ (z : Vector). IsLexBefore z z) e (subst (IsLexBefore x) (sym e) b) in IsLexBefore-asymmetric y y c c) xs p.0,
