@@ -278,16 +278,18 @@ module _ (limit : ℕ) (rows : List Vector) (up down : SideLists) (p : IsPart li
 
     candidate : (x : Vector) → IsSumOf up.rising up.degrees down.rising down.degrees degree x → IsCandidate x
     candidate x c =
-        let q = get_or up.rising c.place [] in
-        let n = get_or down.rising c.with_second.place [] in
-        let iq = up_element q (each_at (λ v. Contains up.elements v × (pos 0 <ℤ dot up.last v)) up.rising c.place [] p.up_side.rising c.inside).0 in
-        let jn = down_element n (each_at (λ v. Contains down.elements v × (pos 0 <ℤ dot down.last v)) down.rising c.with_second.place [] p.down_side.rising c.with_second.inside).0 in
+        let q = get_or up.rising c.first [] in
+        let n = get_or down.rising c.second [] in
+        let li : c.first < length up.rising = (let k = c.related.0 in let s = degrees_length limit rows up p.up_side in omega (arith, k, s)) in
+        let lj : c.second < length down.rising = (let k = c.related.1.0 in let s = degrees_length limit rows down p.down_side in omega (arith, k, s)) in
+        let iq = up_element q (each_at (λ v. Contains up.elements v × (pos 0 <ℤ dot up.last v)) up.rising c.first [] p.up_side.rising li).0 in
+        let jn = down_element n (each_at (λ v. Contains down.elements v × (pos 0 <ℤ dot down.last v)) down.rising c.second [] p.down_side.rising lj).0 in
         let s = sum_degree q n iq jn in
-        let da = degree_at limit rows up p.up_side c.place c.inside in
-        let db = ap (λ (f : Vector). dot f n) (sym form_same) ∙ degree_at limit rows down p.down_side c.with_second.place c.with_second.inside in
-        let e = ap (dot (total (length up.last) rows)) c.with_second.same in
-        let h = c.with_second.has_degree in
-        record { first = q; second = n; of_up = iq; of_down = jn; same = c.with_second.same; is_degree = omega (arith, ints, e, s, da, db, h) }
+        let da = degree_at limit rows up p.up_side c.first li in
+        let db = ap (λ (f : Vector). dot f n) (sym form_same) ∙ degree_at limit rows down p.down_side c.second lj in
+        let e = ap (dot (total (length up.last) rows)) c.same in
+        let h = c.related.1.1 in
+        record { first = q; second = n; of_up = iq; of_down = jn; same = c.same; is_degree = omega (arith, ints, e, s, da, db, h) }
 
     member_of : (x : Vector) → IsCandidate x → IsInStage (HasWidth (length up.last)) rows x
     member_of x c = subst (IsInStage (HasWidth (length up.last)) rows) (sym c.same) (stage_closed (length up.last) (HasWidth (length up.last)) (whole_lattice (length up.last)) rows c.first c.second (side_member rows up.last c.first c.of_up) (down_member c.second c.of_down))
@@ -313,7 +315,7 @@ module _ (limit : ℕ) (rows : List Vector) (up down : SideLists) (p : IsPart li
     sum_named x s = let c = candidate x s in subst (IsNamed (length up.last) rows up.last) (sym c.same) (sum c.of_up (from_side c.second c.of_down))
 
     -- after the sums of this degree
-    module _ (listed ups downs more_up more_down : List Vector) (are : AreSums (IsSettled rows up down) up.rising up.degrees down.rising down.degrees degree (length up.rising) listed)
+    module _ (listed ups downs more_up more_down : List Vector) (are : AreSums (IsSettled rows up down) up.rising up.degrees down.rising down.degrees degree listed)
         (grew_up : ups ≡ up.elements ++ more_up) (grew_down : downs ≡ down.elements ++ more_down)
         (only_up : Each (IsSideElement rows up.last) ups) (only_down : Each (IsSideElement rows down.last) downs)
         (handled_up : Each (Handles rows up.last ups) listed) (handled_down : Each (Handles rows down.last downs) listed) where
@@ -335,10 +337,12 @@ module _ (limit : ℕ) (rows : List Vector) (up down : SideLists) (p : IsPart li
           (λ (k : degree ≤ get_or up.degrees a.place 0 + get_or down.degrees b.place 0).
           let e : get_or up.degrees a.place 0 + get_or down.degrees b.place 0 ≡ degree = omega (arith, ints, s, da, db, k, l) in
           let o : Vector → Type 0 = λ z. Contains listed z ⊎ IsSettled rows up down z in
+          let a_degree : a.place < length up.degrees = (let k = a.inside in let t = degrees_length limit rows up p.up_side in omega (arith, k, t)) in
+          let b_degree : b.place < length down.degrees = (let k = b.inside in let t = degrees_length limit rows down p.down_side in omega (arith, k, t)) in
           ⊎_elim
           (λ (c : Contains listed (plus q n)). (Each-contains (Handles rows up.last ups) listed (plus q n) handled_up c, Each-contains (Handles rows down.last downs) listed (plus q n) handled_down c))
           (λ (h : IsSettled rows up down (plus q n)). still (plus q n) h)
-          (subst (λ (v : Vector). o (plus v n)) a.same (subst (λ (v : Vector). o (plus (get_or up.rising a.place []) v)) b.same (are.each a.place a.inside b.place b.inside e))))
+          (subst (λ (v : Vector). o (plus v n)) a.same (subst (λ (v : Vector). o (plus (get_or up.rising a.place []) v)) b.same (are.each a.place b.place (a_degree, (b_degree, e))))))
           (not_sooner last (Some degree) next q n a b)
 
       pub sums_next : HandlesSums rows up.last down.last degree ups downs
@@ -363,7 +367,7 @@ part_next limit rows up down up' down' p f g = record {
 }
 
 pub handles_sums_next : (limit : ℕ) (rows : List Vector) (up down up' down' : SideLists) (p : IsPart limit rows up down) (last degree : ℕ) → HandlesSums rows up.last down.last last up.elements down.elements → IsNext last up.degrees down.degrees (Some degree)
-    → (listed : List Vector) → AreSums (IsSettled rows up down) up.rising up.degrees down.rising down.degrees degree (length up.rising) listed → HasGrown limit rows up up' → HasGrown limit rows down down' → Each (Handles rows up.last up'.elements) listed → Each (Handles rows down.last down'.elements) listed
+    → (listed : List Vector) → AreSums (IsSettled rows up down) up.rising up.degrees down.rising down.degrees degree listed → HasGrown limit rows up up' → HasGrown limit rows down down' → Each (Handles rows up.last up'.elements) listed → Each (Handles rows down.last down'.elements) listed
     → HandlesSums rows up'.last down'.last degree up'.elements down'.elements
 handles_sums_next limit rows up down up' down' p last degree sums next listed are f g hu hd =
     subst (λ (v : Vector). HandlesSums rows v down'.last degree up'.elements down'.elements) (sym f.last)
@@ -373,15 +377,15 @@ handles_sums_next limit rows up down up' down' p last degree sums next listed ar
     (subst (λ (v : Vector). Each (IsSideElement rows v) down'.elements) g.last g.side.elements) hu hd))
 
 pub all_keep_up : (limit : ℕ) (rows : List Vector) (up down : SideLists) (p : IsPart limit rows up down) (last degree : ℕ) → HandlesSums rows up.last down.last last up.elements down.elements → IsNext last up.degrees down.degrees (Some degree)
-    → (listed : List Vector) → AreSums (IsSettled rows up down) up.rising up.degrees down.rising down.degrees degree (length up.rising) listed → Each (Keeps rows up.last up.elements) listed
+    → (listed : List Vector) → AreSums (IsSettled rows up down) up.rising up.degrees down.rising down.degrees degree listed → Each (Keeps rows up.last up.elements) listed
 all_keep_up limit rows up down p last degree sums next listed are = Each-weaker (IsSumOf up.rising up.degrees down.rising down.degrees degree) (Keeps rows up.last up.elements) (λ x s. keeps_up limit rows up down p last degree sums next x s) listed are.only
 
 pub all_keep_down : (limit : ℕ) (rows : List Vector) (up down : SideLists) (p : IsPart limit rows up down) (last degree : ℕ) → HandlesSums rows up.last down.last last up.elements down.elements → IsNext last up.degrees down.degrees (Some degree)
-    → (listed : List Vector) → AreSums (IsSettled rows up down) up.rising up.degrees down.rising down.degrees degree (length up.rising) listed → Each (Keeps rows down.last down.elements) listed
+    → (listed : List Vector) → AreSums (IsSettled rows up down) up.rising up.degrees down.rising down.degrees degree listed → Each (Keeps rows down.last down.elements) listed
 all_keep_down limit rows up down p last degree sums next listed are = Each-weaker (IsSumOf up.rising up.degrees down.rising down.degrees degree) (Keeps rows down.last down.elements) (λ x s. keeps_down limit rows up down p last degree sums next x s) listed are.only
 
 pub all_wide : (limit : ℕ) (rows : List Vector) (up down : SideLists) (p : IsPart limit rows up down) (last degree : ℕ) → HandlesSums rows up.last down.last last up.elements down.elements → IsNext last up.degrees down.degrees (Some degree)
-    → (listed : List Vector) → AreSums (IsSettled rows up down) up.rising up.degrees down.rising down.degrees degree (length up.rising) listed → Each (HasWidth (length up.last)) listed
+    → (listed : List Vector) → AreSums (IsSettled rows up down) up.rising up.degrees down.rising down.degrees degree listed → Each (HasWidth (length up.last)) listed
 all_wide limit rows up down p last degree sums next listed are = Each-weaker (IsSumOf up.rising up.degrees down.rising down.degrees degree) (HasWidth (length up.last)) (λ x s. sum_wide limit rows up down p last degree sums next x s) listed are.only
 
 pub side_width : (limit : ℕ) (rows : List Vector) (up down : SideLists) → IsPart limit rows up down → length down.last ≡ length up.last
@@ -402,7 +406,7 @@ no_sums limit rows up down p q n cq cn hq hn l =
 
 -- a refusal while the sums of one degree are offered
 pub close_refused : (h : ℤ) (limit : ℕ) (rows : List Vector) (up down : SideLists) (p : IsPart limit rows up down) (last degree : ℕ) → HandlesSums rows up.last down.last last up.elements down.elements → IsNext last up.degrees down.degrees (Some degree)
-    → (listed : List Vector) → AreSums (IsSettled rows up down) up.rising up.degrees down.rising down.degrees degree (length up.rising) listed → (row : Vector) → up.last ≡ row → (work : Work) → IsOfferedRefusal h limit rows up.last down.last (Contains listed) work → IsInsertRefusal h limit (length row) rows row work
+    → (listed : List Vector) → AreSums (IsSettled rows up down) up.rising up.degrees down.rising down.degrees degree listed → (row : Vector) → up.last ≡ row → (work : Work) → IsOfferedRefusal h limit rows up.last down.last (Contains listed) work → IsInsertRefusal h limit (length row) rows row work
 close_refused h limit rows up down p last degree sums next listed are row same work r =
     let named : (v : Vector) → Contains listed v → IsNamed (length up.last) rows up.last v = λ v c. sum_named limit rows up down p last degree sums next v (Each-contains (IsSumOf up.rising up.degrees down.rising down.degrees degree) listed v are.only c) in
     subst (λ (v : Vector). IsInsertRefusal h limit (length v) rows v work) same (⊎_elim

@@ -39,16 +39,16 @@ first_values [] last x = refl
 first_values (r ∷ rows) last x = ap (λ (vs : Vector). dot r x ∷ vs) (first_values rows last x)
 
 -- ---- the lists with one element more
-same_side : (a b : Vector) (es fs : List Vector) (c d : ℕ) (vs ws : List Vector) (rs ss rv sv : List Vector) (ds gs : List ℕ) → a ≡ b → es ≡ fs → c ≡ d → vs ≡ ws → rs ≡ ss → rv ≡ sv → ds ≡ gs
-    → record { last = a; elements = es; columns = c; values = vs; rising = rs; rising_values = rv; degrees = ds } ≡ (let s : SideLists = record { last = b; elements = fs; columns = d; values = ws; rising = ss; rising_values = sv; degrees = gs } in s)
-same_side a b es fs c d vs ws rs ss rv sv ds gs p q r t u y v =
-    let f1 : Vector → SideLists = λ z. record { last = z; elements = es; columns = c; values = vs; rising = rs; rising_values = rv; degrees = ds } in
-    let f2 : List Vector → SideLists = λ z. record { last = b; elements = z; columns = c; values = vs; rising = rs; rising_values = rv; degrees = ds } in
-    let f3 : ℕ → SideLists = λ z. record { last = b; elements = fs; columns = z; values = vs; rising = rs; rising_values = rv; degrees = ds } in
-    let f4 : List Vector → SideLists = λ z. record { last = b; elements = fs; columns = d; values = z; rising = rs; rising_values = rv; degrees = ds } in
-    let f5 : List Vector → SideLists = λ z. record { last = b; elements = fs; columns = d; values = ws; rising = z; rising_values = rv; degrees = ds } in
-    let f6 : List Vector → SideLists = λ z. record { last = b; elements = fs; columns = d; values = ws; rising = ss; rising_values = z; degrees = ds } in
-    let f7 : List ℕ → SideLists = λ z. record { last = b; elements = fs; columns = d; values = ws; rising = ss; rising_values = sv; degrees = z } in
+same_side : (a b : Vector) (es fs : List Vector) (c d : ℕ) (vs ws : List Vector) (rs ss rv sv : List Vector) (ds gs ks : List ℕ) → a ≡ b → es ≡ fs → c ≡ d → vs ≡ ws → rs ≡ ss → rv ≡ sv → ds ≡ gs
+    → record { last = a; elements = es; columns = c; values = vs; rising = rs; rising_values = rv; degrees = ds; classes = ks } ≡ (let s : SideLists = record { last = b; elements = fs; columns = d; values = ws; rising = ss; rising_values = sv; degrees = gs; classes = ks } in s)
+same_side a b es fs c d vs ws rs ss rv sv ds gs ks p q r t u y v =
+    let f1 : Vector → SideLists = λ z. record { last = z; elements = es; columns = c; values = vs; rising = rs; rising_values = rv; degrees = ds; classes = ks } in
+    let f2 : List Vector → SideLists = λ z. record { last = b; elements = z; columns = c; values = vs; rising = rs; rising_values = rv; degrees = ds; classes = ks } in
+    let f3 : ℕ → SideLists = λ z. record { last = b; elements = fs; columns = z; values = vs; rising = rs; rising_values = rv; degrees = ds; classes = ks } in
+    let f4 : List Vector → SideLists = λ z. record { last = b; elements = fs; columns = d; values = z; rising = rs; rising_values = rv; degrees = ds; classes = ks } in
+    let f5 : List Vector → SideLists = λ z. record { last = b; elements = fs; columns = d; values = ws; rising = z; rising_values = rv; degrees = ds; classes = ks } in
+    let f6 : List Vector → SideLists = λ z. record { last = b; elements = fs; columns = d; values = ws; rising = ss; rising_values = z; degrees = ds; classes = ks } in
+    let f7 : List ℕ → SideLists = λ z. record { last = b; elements = fs; columns = d; values = ws; rising = ss; rising_values = sv; degrees = z; classes = ks } in
     ap f1 p ∙ ap f2 q ∙ ap f3 r ∙ ap f4 t ∙ ap f5 u ∙ ap f6 y ∙ ap f7 v
 
 more_elements : (rows : List Vector) (last : Vector) (es : List Vector) (x : Vector) → Each (IsSideElement rows last) es → IsSideElement rows last x → Each (IsSideElement rows last) (es ++ x ∷ [])
@@ -80,10 +80,10 @@ module _ (limit : ℕ) (rows : List Vector) (old : SideLists) (s : IsSide limit 
     from_old : Each (λ v. Contains (old.elements ++ x ∷ []) v × (pos 0 <ℤ dot old.last v)) old.rising
     from_old = Each-weaker (λ v. Contains old.elements v × (pos 0 <ℤ dot old.last v)) (λ v. Contains (old.elements ++ x ∷ []) v × (pos 0 <ℤ dot old.last v)) (λ v h. (Contains-append_left old.elements (x ∷ []) v h.0, h.1)) old.rising s.rising
 
-    pub side_with : (rising rising_values : List Vector) (degrees : List ℕ) → length (old.elements ++ x ∷ []) ≤ limit
+    pub side_with : (rising rising_values : List Vector) (degrees classes : List ℕ) → length (old.elements ++ x ∷ []) ≤ limit
         → ((pos 0 <ℤ entry vs (length rows)) × (rising ≡ old.rising ++ x ∷ []) × (degrees ≡ old.degrees ++ measure (take (length rows) vs) ∷ []) × (measure (take (length rows) vs) < 2 ^ 127) × (rising_values ≡ old.rising_values ++ vs ∷ [])) ⊎ ((¬ (pos 0 <ℤ entry vs (length rows))) × (rising ≡ old.rising) × (degrees ≡ old.degrees) × (rising_values ≡ old.rising_values))
-        → IsSide limit rows (record { last = old.last; elements = old.elements ++ x ∷ []; columns = old.columns; values = old.values ++ vs ∷ []; rising = rising; rising_values = rising_values; degrees = degrees })
-    side_with rising rising_values degrees within noted =
+        → IsSide limit rows (record { last = old.last; elements = old.elements ++ x ∷ []; columns = old.columns; values = old.values ++ vs ∷ []; rising = rising; rising_values = rising_values; degrees = degrees; classes = classes })
+    side_with rising rising_values degrees classes within noted =
         let R : Vector → Type 0 = λ v. Contains (old.elements ++ x ∷ []) v × (pos 0 <ℤ dot old.last v) in
         let D : Vector → ℕ → Type 0 = λ v d. (dot (total (length old.last) rows) v ≡ pos d) × (d < 2 ^ 127) in
         let height : entry vs (length rows) ≡ dot old.last x = ap (λ (us : Vector). entry us (length rows)) same ∙ last_value rows old.last x in
@@ -131,7 +131,7 @@ module _ (limit : ℕ) (rows : List Vector) (old : SideLists) (s : IsSide limit 
 -- what is kept
 pub kept_side : (limit : ℕ) (rows : List Vector) (old noted : SideLists) (inside : SideLists) (x vs : Vector) (count : ℕ) (es : List Vector) (columns : ℕ) (ts : List Vector) → Each (HasWidth (length old.last)) rows → IsSide limit rows old → vs ≡ values_at (rows ++ old.last ∷ []) x → NoneIsBelow old.values vs → IsSideElement rows old.last x
     → count ≡ length rows → IsNoted count x vs old noted → inside ≡ noted → es ≡ inside.elements ++ x ∷ [] → columns ≡ inside.columns → ts ≡ inside.values ++ vs ∷ [] → length es ≤ limit
-    → (let new : SideLists = record { last = inside.last; elements = es; columns = columns; values = ts; rising = inside.rising; rising_values = inside.rising_values; degrees = inside.degrees } in IsSide limit rows new × (new.last ≡ old.last) × (new.elements ≡ old.elements ++ x ∷ []))
+    → (let new : SideLists = record { last = inside.last; elements = es; columns = columns; values = ts; rising = inside.rising; rising_values = inside.rising_values; degrees = inside.degrees; classes = inside.classes } in IsSide limit rows new × (new.last ≡ old.last) × (new.elements ≡ old.elements ++ x ∷ []))
 kept_side limit rows old noted inside x vs count es columns ts wide s same none i is_count n e ee ec et within =
     let ne = ee ∙ ap (λ (k : SideLists). k.elements ++ x ∷ []) e ∙ ap (λ (us : List Vector). us ++ x ∷ []) n.elements in
     let nl = ap (λ (k : SideLists). k.last) e ∙ n.last in
@@ -140,10 +140,10 @@ kept_side limit rows old noted inside x vs count es columns ts wide s same none 
     let nr = ap (λ (k : SideLists). k.rising) e in
     let nq = ap (λ (k : SideLists). k.rising_values) e in
     let nd = ap (λ (k : SideLists). k.degrees) e in
-    let path = same_side inside.last old.last es (old.elements ++ x ∷ []) columns old.columns ts (old.values ++ vs ∷ []) inside.rising noted.rising inside.rising_values noted.rising_values inside.degrees noted.degrees nl ne nc nv nr nq nd in
+    let path = same_side inside.last old.last es (old.elements ++ x ∷ []) columns old.columns ts (old.values ++ vs ∷ []) inside.rising noted.rising inside.rising_values noted.rising_values inside.degrees noted.degrees inside.classes nl ne nc nv nr nq nd in
     let w : length (old.elements ++ x ∷ []) ≤ limit = subst (λ (us : List Vector). length us ≤ limit) ne within in
     let noted' = subst (λ (k : ℕ). ((pos 0 <ℤ entry vs k) × (noted.rising ≡ old.rising ++ x ∷ []) × (noted.degrees ≡ old.degrees ++ measure (take k vs) ∷ []) × (measure (take k vs) < 2 ^ 127) × (noted.rising_values ≡ old.rising_values ++ vs ∷ [])) ⊎ ((¬ (pos 0 <ℤ entry vs k)) × (noted.rising ≡ old.rising) × (noted.degrees ≡ old.degrees) × (noted.rising_values ≡ old.rising_values))) is_count n.noted in
-    (subst (IsSide limit rows) (sym path) (side_with limit rows old s x vs i same none wide noted.rising noted.rising_values noted.degrees w noted'), nl, ne)
+    (subst (IsSide limit rows) (sym path) (side_with limit rows old s x vs i same none wide noted.rising noted.rising_values noted.degrees inside.classes w noted'), nl, ne)
 
 -- too many
 pub kept_too_many : (limit : ℕ) (rows : List Vector) (old noted inside : SideLists) (x vs : Vector) (count : ℕ) (es : List Vector) → IsSide limit rows old → vs ≡ values_at (rows ++ old.last ∷ []) x → NoneIsBelow old.values vs → IsSideElement rows old.last x

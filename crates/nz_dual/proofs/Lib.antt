@@ -1,3 +1,4 @@
+pub mod ClassLemmas
 pub mod SideLemmas
 pub mod SumLemmas
 pub mod ValueLemmas

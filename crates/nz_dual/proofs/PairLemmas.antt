@@ -1,16 +1,16 @@
 -- What the values at two elements, one of each side, tell of their sum.
-use Rattle.std.proofs.Common.{◌≡◌, ⊎_elim, ℕ, zero, suc, ◌+◌, ◌<◌, List, [], ◌∷◌, ◌++◌, length, map, take, get_or, ℤ, pos, ◌+ℤ◌, ◌-ℤ◌, ◌<ℤ◌, Contains, refl, sym, ap, ap₂, ◌∙◌, subst, arith}
+use Rattle.std.proofs.Common.{◌≡◌, ⊎_elim, inr, ℕ, zero, suc, ◌+◌, ◌<◌, List, [], ◌∷◌, ◌++◌, length, map, take, get_or, ℤ, pos, ◌+ℤ◌, ◌-ℤ◌, ◌<ℤ◌, Contains, refl, sym, ap, ap₂, ◌∙◌, subst, arith}
 use Rattle.std.proofs.lemmas.Int.{ints}
 use Rattle.std.proofs.lemmas.List.{length-map, length-append, length-take-le, get_or-map}
 use Rattle.std.specs.List.{AllByRecursion as Each}
-use Rattle.nz_spec.specs.Vectors.{Vector, dot, plus, values_at}
+use Rattle.nz_spec.specs.Vectors.{Vector, dot, plus, entry, values_at}
 use Rattle.nz_spec.proofs.VectorLaws.{dot-plus, plus_comm, length-plus}
 use Rattle.nz_spec.proofs.ListLaws.{Each-contains, each_at, contains_at}
 use Rattle.nz_linear.proofs.SumCoordinates.{image_of}
 use Rattle.nz_order.specs.Boxes.{IsBelow}
-use Rattle.nz_reducer.specs.Tables.{IsFirstBelow}
+use Rattle.nz_reducer.specs.Tables.{HasAnyBelow}
 use Rattle.nz_dual.specs.Sides.{SideLists, IsSide, IsSideElement, Handles}
-use Rattle.nz_dual.specs.PairValues.{sums_before, height, SomeIsBelow, FallsAway}
+use Rattle.nz_dual.specs.PairValues.{sums_before, height, HasValues, FallsAway}
 use Rattle.nz_dual.specs.Closures.{AreParts, IsSettled}
 use Rattle.nz_dual.proofs.SideLemmas.{found_same, opposite_value, opposite_length}
 use Rattle.nz_dual.proofs.KeepLemmas.{values_split, last_value, not_on_side}
@@ -28,6 +28,10 @@ sums_wide count own other last a b =
     let t = length-take-le count (plus own other) (omega (arith, l, a)) in
     length-append (take count (plus own other)) (last ∷ []) ∙ ap (λ (n : ℕ). n + 1) t
 
+-- the value of the last form, read off the values at the two
+pub fallen : (count : ℕ) (own other u v : Vector) (z : ℤ) → own ≡ u → other ≡ v → z ≡ entry own count -ℤ entry other count → z ≡ height count u v
+fallen count own other u v z a b e = e ∙ ap₂ (λ (x y : Vector). height count x y) a b
+
 first_sums : (rows : List Vector) (f g x y : Vector) → length x ≡ length y → take (length rows) (plus (values_at (rows ++ f ∷ []) x) (values_at (rows ++ g ∷ []) y)) ≡ values_at rows (plus x y)
 first_sums [] f g x y l = refl
 first_sums (r ∷ rows) f g x y l = ap₂ (λ (a : ℤ) (vs : Vector). a ∷ vs) (sym (dot-plus r x y l)) (first_sums rows f g x y l)
@@ -44,14 +48,14 @@ values_are : (rows : List Vector) (f g x y : Vector) → length x ≡ length y �
     → sums_before (length rows) (values_at (rows ++ f ∷ []) x) (values_at (rows ++ g ∷ []) y) (height (length rows) (values_at (rows ++ f ∷ []) x) (values_at (rows ++ g ∷ []) y)) ≡ values_at (rows ++ f ∷ []) (plus x y)
 values_are rows f g x y l o = ap₂ (λ (vs : Vector) (a : ℤ). vs ++ a ∷ []) (first_sums rows f g x y l) (height_is rows f g x y l o) ∙ sym (values_split rows f (plus x y))
 
--- ---- what falls
-pub first_is_below : (entries : List Vector) (values : Vector) (place : ℕ) → IsFirstBelow entries values place → SomeIsBelow entries values
-first_is_below entries values place f = record { low = get_or entries place []; has = contains_at entries place [] f.inside; below = f.below }
+pub falls_by : (count : ℕ) (entries : List Vector) (own other u v values : Vector) (z : ℤ) → own ≡ u → other ≡ v → z ≡ entry own count -ℤ entry other count → values ≡ sums_before count own other z → HasAnyBelow entries values → FallsAway count entries u v
+falls_by count entries own other u v values z a b h e k = inr (subst (HasAnyBelow entries) (e ∙ ap (sums_before count own other) (fallen count own other u v z a b h) ∙ ap₂ (λ (x y : Vector). sums_before count x y (height count u v)) a b) k)
 
-handled_below : (rows : List Vector) (last : Vector) (elements : List Vector) (z : Vector) → Each (IsSideElement rows last) elements → SomeIsBelow (map (values_at (rows ++ last ∷ [])) elements) (values_at (rows ++ last ∷ []) z) → Handles rows last elements z
+-- ---- what falls
+handled_below : (rows : List Vector) (last : Vector) (elements : List Vector) (z : Vector) → Each (IsSideElement rows last) elements → HasAnyBelow (map (values_at (rows ++ last ∷ [])) elements) (values_at (rows ++ last ∷ []) z) → Handles rows last elements z
 handled_below rows last elements z only s = λ i.
     let fs = rows ++ last ∷ [] in
-    let m = image_of (values_at fs) elements s.low s.has in
+    let m = image_of (values_at fs) elements (get_or (map (values_at fs) elements) s.place []) (contains_at (map (values_at fs) elements) s.place [] s.inside) in
     let b = subst (λ (v : Vector). IsBelow v (values_at fs z)) (sym m.same) s.below in
     subst (Contains elements) (found_same rows last m.source z (Each-contains (IsSideElement rows last) elements m.source only m.has) b i) m.has
 
@@ -62,9 +66,9 @@ falls_handled limit rows s g x y own other side l o eu ev f =
     let n = length rows in
     ⊎_elim
     (λ (a : height n own other <ℤ pos 0). λ i. absurd (not_on_side rows s.last s.last (plus x y) (height n own other) refl (ap₂ (height n) eu ev ∙ height_is rows s.last g x y l o) a i))
-    (λ (b : SomeIsBelow s.values (sums_before n own other (height n own other))).
+    (λ (b : HasAnyBelow s.values (sums_before n own other (height n own other))).
     let e : sums_before n own other (height n own other) ≡ values_at fs (plus x y) = ap₂ (λ (u v : Vector). sums_before n u v (height n u v)) eu ev ∙ values_are rows s.last g x y l o in
-    handled_below rows s.last s.elements (plus x y) side.elements (subst (λ (ts : List Vector). SomeIsBelow ts (values_at fs (plus x y))) side.values (subst (SomeIsBelow s.values) e b)))
+    handled_below rows s.last s.elements (plus x y) side.elements (subst (λ (ts : List Vector). HasAnyBelow ts (values_at fs (plus x y))) side.values (subst (HasAnyBelow s.values) e b)))
     f
 
 -- ---- the rising elements of a side
@@ -81,6 +85,9 @@ rising_values_count limit rows s i = ap length i.rising_values ∙ length-map s.
 
 pub rising_values_wide : (limit : ℕ) (rows : List Vector) (s : SideLists) → IsSide limit rows s → (k : ℕ) → k < length s.rising → length (get_or s.rising_values k []) ≡ length rows + 1
 rising_values_wide limit rows s i k l = ap length (values_of_rising limit rows s i k l) ∙ length-map (rows ++ s.last ∷ []) (λ f. dot f (get_or s.rising k [])) ∙ length-append rows (s.last ∷ [])
+
+pub has_values : (limit : ℕ) (rows : List Vector) (s : SideLists) → IsSide limit rows s → (count k : ℕ) → count ≡ length rows → k < length s.rising → HasValues count s k
+has_values limit rows s i count k e l = ((let n = rising_values_count limit rows s i in omega (arith, n, l)), rising_values_wide limit rows s i k l ∙ ap (λ (n : ℕ). n + 1) (sym e))
 
 pub same_width : (rows : List Vector) (up down : SideLists) → AreParts rows up down → (i k : ℕ) → i < length up.rising → k < length down.rising → length (get_or up.rising i []) ≡ length (get_or down.rising k [])
 same_width rows up down parts i k li lk =

@@ -1,5 +1,5 @@
 -- What may be kept on a side of a row, and what is found there.
-use Rattle.std.proofs.Common.{◌≡◌, ⊎_elim, List, [], ◌∷◌, ◌++◌, length, map, pos, ◌-ℤ◌, ◌≤ℤ◌, ◌<ℤ◌, neg_ℤ, Contains, sym, ◌∙◌, arith}
+use Rattle.std.proofs.Common.{◌≡◌, ⊎_elim, List, [], ◌∷◌, ◌++◌, length, map, pos, ◌-ℤ◌, ◌≤ℤ◌, ◌<ℤ◌, neg_ℤ, Contains, sym, ◌∙◌, subst, arith}
 use Rattle.std.proofs.lemmas.Int.{ints}
 use Rattle.std.proofs.lemmas.List.{length-map}
 use Rattle.std.proofs.lemmas.List.Elements.{Contains-append_left}
@@ -20,7 +20,7 @@ use Rattle.nz_order.proofs.IrreducibleLaws.{not_reduced}
 use Rattle.nz_order.proofs.StageInsert.{kept_above}
 use Rattle.nz_reducer.specs.Tables.{NoneIsBelow}
 use Rattle.nz_dual.specs.DualStages.{IsElement, IsReversedElement}
-use Rattle.nz_dual.specs.Sides.{IsSideElement, Keeps, Handles}
+use Rattle.nz_dual.specs.Sides.{SideLists, IsSideElement, Keeps, Handles}
 
 -- ---- value lists
 pub below_of_each : (fs : List Vector) (v x : Vector) → Each (λ r. dot r v ≤ℤ dot r x) fs → IsBelow (values_at fs v) (values_at fs x)
@@ -116,3 +116,7 @@ reversed_of_side rows h = IsIrreducible-where (IsInStage (HasWidth (length (oppo
 
 pub side_of_reversed : (rows : List Vector) (h x : Vector) → IsReversedElement (length h) rows h x → IsSideElement rows (opposite h) x
 side_of_reversed rows h = IsIrreducible-where (IsInReversed (HasWidth (length h)) rows h) (IsInStage (HasWidth (length (opposite h))) (rows ++ opposite h ∷ [])) (from_reversed_member rows h) (to_reversed_member rows h)
+
+-- ---- what is said of two sides is said of the same sides
+pub moved : (P : SideLists → SideLists → Type 0) (up up' down down' : SideLists) → up' ≡ up → down' ≡ down → P up' down' → P up down
+moved P up up' down down' eu ed h = subst (λ (s : SideLists). P s down) eu (subst (P up') ed h)

@@ -1,6 +1,7 @@
 pub mod DualStages
 pub mod FirstStage
 pub mod Levels
+pub mod DegreeClasses
 pub mod Sides
 pub mod PairSums
 pub mod PairValues

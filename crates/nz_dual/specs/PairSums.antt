@@ -24,27 +24,45 @@ pub record IsNext (last : ℕ) (firsts seconds : List ℕ) (best : Option ℕ) :
   pub ahead : IsAhead last best
   pub none_sooner : Each (λ a. Each (λ b. IsNotSooner last best (a + b)) seconds) firsts
 
--- s is the sum of x and one of the others, whose degree with that of x is the one wanted
-pub record IsSumWith (x : Vector) (degree : ℕ) (others : List Vector) (degrees : List ℕ) (wanted : ℕ) (s : Vector) : Type 0 where
-  pub place : ℕ
-  pub inside : place < length others
-  pub has_degree : degree + slice_index degrees place ≡ wanted
-  pub same : s ≡ plus x (get_or others place [])
+-- a place of this degree
+abbrev pub HasDegree : List ℕ → ℕ → ℕ → Type 0
+HasDegree degrees degree k = (k < length degrees) × (slice_index degrees k ≡ degree)
 
--- s is the sum of one vector of each list, whose degrees have the sum that is wanted
-pub record IsSumOf (firsts : List Vector) (first_degrees : List ℕ) (seconds : List Vector) (second_degrees : List ℕ) (wanted : ℕ) (s : Vector) : Type 0 where
-  pub place : ℕ
-  pub inside : place < length firsts
-  pub with_second : IsSumWith (get_or firsts place []) (slice_index first_degrees place) seconds second_degrees wanted s
+-- this place, and one of a degree
+abbrev pub IsWith : ℕ → List ℕ → ℕ → ℕ → ℕ → Type 0
+IsWith first degrees degree i k = (i ≡ first) × HasDegree degrees degree k
 
--- the sums of x and those of the first others whose degree with that of x is the one wanted, but for some that are settled without
-pub record AddsSums (Settled : Vector → Type 0) (x : Vector) (degree : ℕ) (others : List Vector) (degrees : List ℕ) (wanted count : ℕ) (old new : List Vector) : Type 0 where
+-- places of these two degrees
+abbrev pub HaveDegrees : List ℕ → ℕ → List ℕ → ℕ → ℕ → ℕ → Type 0
+HaveDegrees firsts a seconds b i k = HasDegree firsts a i × HasDegree seconds b k
+
+-- places of two degrees with this sum, the first of which is given
+abbrev pub HaveSumFrom : List ℕ → ℕ → List ℕ → ℕ → ℕ → ℕ → Type 0
+HaveSumFrom firsts a seconds wanted i k = HasDegree firsts a i × ((k < length seconds) × (a + slice_index seconds k ≡ wanted))
+
+-- places of two degrees with this sum
+abbrev pub HaveSum : List ℕ → List ℕ → ℕ → ℕ → ℕ → Type 0
+HaveSum firsts seconds wanted i k = (i < length firsts) × ((k < length seconds) × (slice_index firsts i + slice_index seconds k ≡ wanted))
+
+-- s is the sum of one vector of each list, at places that are so related
+pub record IsSumAt (firsts seconds : List Vector) (Related : ℕ → ℕ → Type 0) (s : Vector) : Type 0 where
+  pub first : ℕ
+  pub second : ℕ
+  pub related : Related first second
+  pub same : s ≡ plus (get_or firsts first []) (get_or seconds second [])
+
+-- the sums of two vectors, one of each list, at places that are so related, but for some that are settled without
+pub record AddsSums (Settled : Vector → Type 0) (firsts seconds : List Vector) (Related : ℕ → ℕ → Type 0) (old new : List Vector) : Type 0 where
   pub more : List Vector
   pub extends : new ≡ old ++ more
-  pub sums : Each (IsSumWith x degree others degrees wanted) more
-  pub each : (k : ℕ) → k < count → degree + slice_index degrees k ≡ wanted → Contains more (plus x (get_or others k [])) ⊎ Settled (plus x (get_or others k []))
+  pub only : Each (IsSumAt firsts seconds Related) more
+  pub each : (i k : ℕ) → Related i k → Contains more (plus (get_or firsts i []) (get_or seconds k [])) ⊎ Settled (plus (get_or firsts i []) (get_or seconds k []))
 
--- the sums of two vectors, one of the first firsts and one of the seconds, whose degrees have the sum that is wanted, but for some that are settled without
-pub record AreSums (Settled : Vector → Type 0) (firsts : List Vector) (first_degrees : List ℕ) (seconds : List Vector) (second_degrees : List ℕ) (wanted count : ℕ) (sums : List Vector) : Type 0 where
+-- s is the sum of one vector of each list, whose degrees have the sum that is wanted
+abbrev pub IsSumOf : List Vector → List ℕ → List Vector → List ℕ → ℕ → Vector → Type 0
+IsSumOf firsts first_degrees seconds second_degrees wanted = IsSumAt firsts seconds (HaveSum first_degrees second_degrees wanted)
+
+-- the sums of two vectors, one of each list, whose degrees have the sum that is wanted, but for some that are settled without
+pub record AreSums (Settled : Vector → Type 0) (firsts : List Vector) (first_degrees : List ℕ) (seconds : List Vector) (second_degrees : List ℕ) (wanted : ℕ) (sums : List Vector) : Type 0 where
   pub only : Each (IsSumOf firsts first_degrees seconds second_degrees wanted) sums
-  pub each : (i : ℕ) → i < count → (k : ℕ) → k < length seconds → slice_index first_degrees i + slice_index second_degrees k ≡ wanted → Contains sums (plus (get_or firsts i []) (get_or seconds k [])) ⊎ Settled (plus (get_or firsts i []) (get_or seconds k []))
+  pub each : (i k : ℕ) → HaveSum first_degrees second_degrees wanted i k → Contains sums (plus (get_or firsts i []) (get_or seconds k [])) ⊎ Settled (plus (get_or firsts i []) (get_or seconds k []))

@@ -12,7 +12,7 @@ use Rattle.nz_vec.specs.declared.answers.Work.{Work}
 use Rattle.nz_vec.specs.declared.answers.Work.TheVariants.{Range, TooMany, Stopped, NoMemory}
 use Rattle.nz_dual.specs.DualStages.{IsElement}
 
--- the last form, the elements and the values of the forms at them, and those at which the last form is positive with the values at them and their degrees
+-- the last form, the elements and the values of the forms at them, and those at which the last form is positive with the values at them, their degrees and the different ones of these
 pub record SideLists : Type 0 where
   pub last : Vector
   pub elements : List Vector
@@ -21,6 +21,7 @@ pub record SideLists : Type 0 where
   pub rising : List Vector
   pub rising_values : List Vector
   pub degrees : List ℕ
+  pub classes : List ℕ
 
 -- an irreducible of the vectors at which the rows and the last form are at least 0
 abbrev pub IsSideElement : List Vector → Vector → Vector → Type 0

@@ -1,5 +1,5 @@
 // Both sides of a new row, until no sum of one element of each is left to be looked at.
-ghost use Rattle.std.specs.Prelude.{◌≡◌, ◌<◌, ◌^◌, length, Contains, MatchResult};
+ghost use Rattle.std.specs.Prelude.{◌≡◌, length, Contains, MatchResult};
 ghost use Rattle.std.specs.List.{AllByRecursion as Each};
 ghost use Rattle.nz_spec.specs.Vectors.{HasWidth};
 ghost use Rattle.nz_dual.specs.DualStages.{IsInsertRefusal};
@@ -106,10 +106,9 @@ pub(crate) fn close<T: Scalar>(
 }
 
 /// The least degree above the last of a sum of two elements, one of each side and both rising there.
+/// Only the different degrees are looked at.
 fn next_of<T: Scalar>(up: &Side<T>, down: &Side<T>, last: u128) -> Option<u128>
-    requires up { Each (λ d. d < 2 ^ 127) up.now.degrees }
-    requires down { Each (λ d. d < 2 ^ 127) down.now.degrees }
     ensures { IsNext last up.now.degrees down.now.degrees result }
 {
-    next_degree(up.degrees.as_slice(), down.degrees.as_slice(), last)
+    next_degree(up.classes(), down.classes(), last)
 }

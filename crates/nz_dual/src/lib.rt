@@ -5,6 +5,7 @@
 //! Start reading at `specs/DualStages.antt`, then `Stage::insert` and `dual`.
 #![tactic(auto)]
 
+mod classes;
 mod closing;
 mod levels;
 mod ordering;

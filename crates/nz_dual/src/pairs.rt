@@ -1,7 +1,7 @@
 // Sums of two elements, one of each side and both rising there, that neither side needs.
-ghost use Rattle.std.specs.Prelude.{◌≡◌, ◌+◌, ◌<◌, ℕ, [], length, slice_index_or, IfSome, true};
+ghost use Rattle.std.specs.Prelude.{◌≡◌, ◌+◌, ◌<◌, [], length, slice_index_or, IfSome, true};
 ghost use Rattle.nz_spec.specs.Vectors.{plus};
-ghost use Rattle.nz_dual.specs.PairValues.{sums_before, FallsAway};
+ghost use Rattle.nz_dual.specs.PairValues.{sums_before, HasValues, FallsAway};
 ghost use Rattle.nz_dual.specs.Closures.{AreParts, IsSettled};
 
 use crate::sides::Side;
@@ -12,47 +12,50 @@ use std::alloc::Global;
 pub(crate) fn is_settled<T: Scalar>(
     alloc: Global,
     rows: &Rows<T>,
-    up: &Side<T>,
-    down: &Side<T>,
+    up: &mut Side<T>,
+    down: &mut Side<T>,
     first: usize,
     second: usize,
 ) -> bool
-    requires part { AreParts rows.now up.now down.now }
-    requires first { first < length up.now.rising }
-    requires second { second < length down.now.rising }
-    ensures { result ≡ true → IsSettled rows.now up.now down.now (plus (slice_index_or up.now.rising first []) (slice_index_or down.now.rising second [])) }
+    requires part { AreParts rows.now up.old down.old }
+    requires first { first < length up.old.rising }
+    requires second { second < length down.old.rising }
+    ensures same { (up.new ≡ up.old) × (down.new ≡ down.old) }
+    ensures settled { result ≡ true → IsSettled rows.now up.old down.old (plus (slice_index_or up.old.rising first []) (slice_index_or down.old.rising second [])) }
 {
-    let above = up.rising_values_at(first);
-    let below = down.rising_values_at(second);
-    if falls(alloc, up, rows.len(), above, below) {
-        falls(alloc, down, rows.len(), below, above)
+    if falls(alloc, up, down, rows.len(), first, second) {
+        falls(alloc, down, up, rows.len(), second, first)
     } else {
         false
     }
 }
 
-/// Whether a sum is not on this side, or falls by an element of it. Given are the values at a rising
-/// element of the side and at one of the other side. False where a value of the sum is not known.
+/// Whether the sum of a rising element of this side and one of the other is not on this side, or falls
+/// by an element of it. False where a value of the sum is not known.
 fn falls<T: Scalar>(
     alloc: Global,
-    side: &Side<T>,
+    side: &mut Side<T>,
+    other: &Side<T>,
     count: usize,
-    own: &Row<T>,
-    other: &Row<T>,
+    own: usize,
+    partner: usize,
 ) -> bool
-    requires own { length own.now ≡ count + 1 }
-    requires other { length other.now ≡ count + 1 }
-    requires columns { side.now.columns ≡ count + 1 }
-    ensures { result ≡ true → FallsAway count side.now.values own.now other.now }
+    requires own { HasValues count side.old own }
+    requires partner { HasValues count other.now partner }
+    requires columns { side.old.columns ≡ count + 1 }
+    ensures same { side.new ≡ side.old }
+    ensures answer { result ≡ true → FallsAway count side.old.values (slice_index_or side.old.rising_values own []) (slice_index_or other.now.rising_values partner []) }
 {
-    let height = match own.at(count).try_sub(other.at(count)) {
+    let above = side.rising_values_at(own);
+    let below = other.rising_values_at(partner);
+    let height = match above.at(count).try_sub(below.at(count)) {
         Some(height) => height,
         None => return false,
     };
     if is_negative(height) {
         return true;
     }
-    match values_of_sum(alloc, count, own, other, height) {
+    match values_of_sum(alloc, count, above, below, height) {
         Some(values) => side.has_below(&values),
         None => false,
     }

@@ -1,13 +1,14 @@
 // One side of a new row.
 ghost use Rattle.std.specs.Rc.{rc_slice_items};
-ghost use Rattle.std.specs.Prelude.{◌≡◌, ◌∷◌, ◌++◌, [], pos, map, ◌<◌, ◌≤◌, ◌^◌, length, take, slice_index, slice_index_or, IfOk, MatchResult, true};
+ghost use Rattle.std.specs.Prelude.{◌≡◌, ◌∷◌, ◌++◌, [], pos, map, ◌<◌, ◌≤◌, ◌^◌, length, take, slice_index, slice_index_or, Contains, IfOk, MatchBool, MatchResult};
 ghost use Rattle.std.specs.List.{AllByRecursion as Each};
 ghost use Rattle.nz_spec.specs.Vectors.{dot, values_at, HasWidth};
 ghost use Rattle.nz_range.specs.Measures.{measure};
-ghost use Rattle.nz_reducer.specs.Tables.{NoneIsBelow};
-ghost use Rattle.nz_dual.specs.PairValues.{SomeIsBelow};
+ghost use Rattle.nz_reducer.specs.Tables.{NoneIsBelow, HasAnyBelow};
+ghost use Rattle.nz_dual.specs.DegreeClasses.{IsEnd};
 ghost use Rattle.nz_dual.specs.Sides.{IsEmpty, IsSide, IsSideElement, IsNoted, IsWorkOf, Keeps, Handles, HasGrown, IsOfferRefusal};
 
+use crate::classes::DegreeClasses;
 use crate::levels::shared;
 use crate::values::{size_of, values_before};
 use nz_reducer::{DegreeTable, Table};
@@ -28,17 +29,16 @@ pub(crate) struct Side<T: Scalar> {
     pub(crate) rising: Rows<T>,
     /// The values of the forms at these.
     pub(crate) rising_values: Rows<T>,
-    /// The degrees of these: the sums of the values of the rows so far.
-    pub(crate) degrees: Vec<u128>,
+    /// The degrees of these, in classes: the sums of the values of the rows so far.
+    pub(crate) degrees: DegreeClasses,
 }
 
 impl<T: Scalar> Model for Side<T> {
-    ghost use Rattle.nz_dual.specs.PairValues.{SomeIsBelow};
     ghost use Rattle.nz_dual.specs.Sides.{SideLists};
 
     ghost Value = { SideLists };
 
-    ghost view = { λ s. record { last = s.last; elements = s.elements; columns = s.table.columns; values = s.table.rows; rising = s.rising; rising_values = s.rising_values; degrees = s.degrees.items } };
+    ghost view = { λ s. record { last = s.last; elements = s.elements; columns = s.table.columns; values = s.table.rows; rising = s.rising; rising_values = s.rising_values; degrees = s.degrees.degrees; classes = s.degrees.classes } };
 }
 
 impl<T: Scalar> Side<T> {
@@ -60,7 +60,7 @@ impl<T: Scalar> Side<T> {
             table,
             rising: Rows::new(alloc),
             rising_values: Rows::new(alloc),
-            degrees: Vec::new(alloc),
+            degrees: DegreeClasses::new(alloc),
         })
     }
 
@@ -176,13 +176,7 @@ impl<T: Scalar> Side<T> {
         within(self.elements.len(), limit)
     }
 
-    /// How many elements rise: the last form is positive at them.
-    pub(crate) fn rising_count(&self) -> usize
-        ensures { result ≡ length self.now.rising }
-    {
-        self.rising.len()
-    }
-
+    /// An element at which the last form is positive.
     pub(crate) fn rising_at(&self, place: usize) -> &Row<T>
         requires { place < length self.now.rising }
         ensures { result.now ≡ slice_index_or self.now.rising place [] }
@@ -198,23 +192,55 @@ impl<T: Scalar> Side<T> {
         self.rising_values.at(place)
     }
 
-    /// The degree of a rising element.
-    pub(crate) fn degree_at(&self, place: usize) -> u128
-        requires { place < length self.now.degrees }
-        ensures { result ≡ slice_index self.now.degrees place }
+    /// The different degrees of the rising elements.
+    pub(crate) fn classes(&self) -> &[u128]
+        ensures value { result.now ≡ self.now.classes }
+        ensures all { Each (Contains self.now.classes) self.now.degrees }
+        ensures small { Each (λ d. d < 2 ^ 127) self.now.classes }
     {
-        self.degrees[place]
+        self.degrees.classes()
+    }
+
+    /// How many different degrees the rising elements have.
+    pub(crate) fn class_count(&self) -> usize
+        ensures count { result ≡ length self.now.classes }
+        ensures all { Each (Contains self.now.classes) self.now.degrees }
+    {
+        self.degrees.classes().len()
+    }
+
+    /// The degree of a class.
+    pub(crate) fn class_degree(&self, class: usize) -> u128
+        requires { class < length self.now.classes }
+        ensures value { result ≡ slice_index self.now.classes class }
+        ensures small { result < 2 ^ 127 }
+    {
+        self.degrees.classes()[class]
+    }
+
+    /// Behind the last rising element of a class, or 0.
+    pub(crate) fn end_of(&self, class: usize) -> usize
+        requires { class < length self.now.classes }
+        ensures { IsEnd self.now.degrees (slice_index self.now.classes class) (length self.now.degrees) result }
+    {
+        self.degrees.end_of(class)
+    }
+
+    /// Behind the rising element before one in its class, or 0.
+    pub(crate) fn end_before(&self, place: usize) -> usize
+        requires { place < length self.now.degrees }
+        ensures { IsEnd self.now.degrees (slice_index self.now.degrees place) place result }
+    {
+        self.degrees.end_before(place)
     }
 
     /// Whether an element has at most these values.
-    pub(crate) fn has_below(&self, values: &Row<T>) -> bool
-        requires { length values.now ≡ self.now.columns }
-        ensures { result ≡ true → SomeIsBelow self.now.values values.now }
+    pub(crate) fn has_below(&mut self, values: &Row<T>) -> bool
+        requires { length values.now ≡ self.old.columns }
+        ensures same { self.new ≡ self.old }
+        ensures answer { MatchBool result (HasAnyBelow self.old.values values.now) (NoneIsBelow self.old.values values.now) }
     {
-        match self.table.first(values) {
-            Some(_) => true,
-            None => false,
-        }
+        self.table.has_any_below(values)
     }
 
     /// Lists a vector with its values and its degree, where the last of its values is positive.
@@ -247,7 +273,7 @@ impl<T: Scalar> Side<T> {
         }
         match self.degrees.push(degree) {
             Ok(()) => Ok(()),
-            Err(_) => Err(Num::NoMemory),
+            Err(refusal) => Err(Num::from(refusal)),
         }
     }
 }

@@ -3,7 +3,7 @@ ghost use Rattle.std.specs.Prelude.{◌≡◌, ◌∷◌, ◌++◌, [], ℕ, ◌
 ghost use Rattle.std.specs.List.{AllByRecursion as Each};
 ghost use Rattle.nz_spec.specs.Vectors.{plus};
 ghost use Rattle.nz_range.specs.Measures.{SomeLarge};
-ghost use Rattle.nz_dual.specs.PairSums.{IsAhead, IsNotSooner, IsSooner, IsNext, AddsSums, AreSums};
+ghost use Rattle.nz_dual.specs.PairSums.{IsAhead, IsNotSooner, IsSooner, IsNext, IsWith, HaveDegrees, HaveSumFrom, AddsSums, AreSums};
 ghost use Rattle.nz_dual.specs.Closures.{AreParts, IsSettled};
 
 use crate::pairs::is_settled;
@@ -52,20 +52,21 @@ pub(crate) fn next_degree(firsts: &[u128], seconds: &[u128], last: u128) -> Opti
 }
 
 /// The sums of this degree of two elements, one of each side and both rising there, but for some that
-/// neither side needs.
+/// neither side needs. Only classes of degrees with this sum are looked at.
 pub(crate) fn sums_of<T: Scalar>(
     alloc: Global,
     rows: &Rows<T>,
-    up: &Side<T>,
-    down: &Side<T>,
+    up: &mut Side<T>,
+    down: &mut Side<T>,
     wanted: u128,
 ) -> Result<Rows<T>, Num>
-    requires { AreParts rows.now up.now down.now }
-    ensures { MatchResult result (AreSums (IsSettled rows.now up.now down.now) up.now.rising up.now.degrees down.now.rising down.now.degrees wanted (length up.now.rising)) (λ e. e ≡ Num.Range → SomeLarge T.HALF (Contains (up.now.rising ++ down.now.rising))) }
+    requires { AreParts rows.now up.old down.old }
+    ensures same { (up.new ≡ up.old) × (down.new ≡ down.old) }
+    ensures sums { MatchResult result (AreSums (IsSettled rows.now up.old down.old) up.old.rising up.old.degrees down.old.rising down.old.degrees wanted) (λ e. e ≡ Num.Range → SomeLarge T.HALF (Contains (up.old.rising ++ down.old.rising))) }
 {
     let mut sums = Rows::new(alloc);
-    for place in 0..up.rising_count() {
-        match add_sums(alloc, rows, up, down, place, wanted, &mut sums) {
+    for class in 0..up.class_count() {
+        match add_sums(alloc, rows, up, down, class, wanted, &mut sums) {
             Ok(()) => {}
             Err(refusal) => return Err(refusal),
         }
@@ -73,34 +74,107 @@ pub(crate) fn sums_of<T: Scalar>(
     Ok(sums)
 }
 
-/// Appends the sums of one rising element and those of the other side whose degrees with its own have
-/// this sum, but for some that neither side needs.
+/// Appends the sums of this degree of an element of one class and those of the other side.
 fn add_sums<T: Scalar>(
     alloc: Global,
     rows: &Rows<T>,
-    up: &Side<T>,
-    down: &Side<T>,
+    up: &mut Side<T>,
+    down: &mut Side<T>,
     first: usize,
     wanted: u128,
     sums: &mut Rows<T>,
 ) -> Result<(), Num>
-    requires part { AreParts rows.now up.now down.now }
-    requires first { first < length up.now.rising }
-    ensures { MatchResult result (λ _. AddsSums (IsSettled rows.now up.now down.now) (slice_index_or up.now.rising first []) (slice_index up.now.degrees first) down.now.rising down.now.degrees wanted (length down.now.rising) sums.old sums.new) (λ e. e ≡ Num.Range → SomeLarge T.HALF (Contains (slice_index_or up.now.rising first [] ∷ down.now.rising))) }
+    requires part { AreParts rows.now up.old down.old }
+    requires first { first < length up.old.classes }
+    ensures same { (up.new ≡ up.old) × (down.new ≡ down.old) }
+    ensures sums { MatchResult result (λ _. AddsSums (IsSettled rows.now up.old down.old) up.old.rising down.old.rising (HaveSumFrom up.old.degrees (slice_index up.old.classes first) down.old.degrees wanted) sums.old sums.new) (λ e. e ≡ Num.Range → SomeLarge T.HALF (Contains (up.old.rising ++ down.old.rising))) }
 {
-    for place in 0..down.rising_count() {
-        if up.degree_at(first) + down.degree_at(place) != wanted {
+    for second in 0..down.class_count() {
+        if up.class_degree(first) + down.class_degree(second) != wanted {
             continue;
         }
-        if is_settled(alloc, rows, up, down, first, place) {
-            continue;
-        }
-        match add_sum(alloc, sums, up.rising_at(first), down.rising_at(place)) {
+        match add_class_sums(alloc, rows, up, down, first, second, sums) {
             Ok(()) => {}
             Err(refusal) => return Err(refusal),
         }
     }
     Ok(())
+}
+
+/// Appends the sums of the elements of two classes.
+fn add_class_sums<T: Scalar>(
+    alloc: Global,
+    rows: &Rows<T>,
+    up: &mut Side<T>,
+    down: &mut Side<T>,
+    first: usize,
+    second: usize,
+    sums: &mut Rows<T>,
+) -> Result<(), Num>
+    requires part { AreParts rows.now up.old down.old }
+    requires first { first < length up.old.classes }
+    requires second { second < length down.old.classes }
+    ensures same { (up.new ≡ up.old) × (down.new ≡ down.old) }
+    ensures sums { MatchResult result (λ _. AddsSums (IsSettled rows.now up.old down.old) up.old.rising down.old.rising (HaveDegrees up.old.degrees (slice_index up.old.classes first) down.old.degrees (slice_index down.old.classes second)) sums.old sums.new) (λ e. e ≡ Num.Range → SomeLarge T.HALF (Contains (up.old.rising ++ down.old.rising))) }
+{
+    let mut end = up.end_of(first);
+    'places: while end > 0 {
+        match add_sums_with(alloc, rows, up, down, end - 1, second, sums) {
+            Ok(()) => {}
+            Err(refusal) => return Err(refusal),
+        }
+        end = up.end_before(end - 1);
+    }
+    Ok(())
+}
+
+/// Appends the sums of one rising element and those of a class of the other side.
+fn add_sums_with<T: Scalar>(
+    alloc: Global,
+    rows: &Rows<T>,
+    up: &mut Side<T>,
+    down: &mut Side<T>,
+    first: usize,
+    class: usize,
+    sums: &mut Rows<T>,
+) -> Result<(), Num>
+    requires part { AreParts rows.now up.old down.old }
+    requires first { first < length up.old.rising }
+    requires class { class < length down.old.classes }
+    ensures same { (up.new ≡ up.old) × (down.new ≡ down.old) }
+    ensures sums { MatchResult result (λ _. AddsSums (IsSettled rows.now up.old down.old) up.old.rising down.old.rising (IsWith first down.old.degrees (slice_index down.old.classes class)) sums.old sums.new) (λ e. e ≡ Num.Range → SomeLarge T.HALF (Contains (up.old.rising ++ down.old.rising))) }
+{
+    let mut end = down.end_of(class);
+    'places: while end > 0 {
+        match add_sum_at(alloc, rows, up, down, first, end - 1, sums) {
+            Ok(()) => {}
+            Err(refusal) => return Err(refusal),
+        }
+        end = down.end_before(end - 1);
+    }
+    Ok(())
+}
+
+/// Appends the sum of two rising elements, unless neither side needs it.
+fn add_sum_at<T: Scalar>(
+    alloc: Global,
+    rows: &Rows<T>,
+    up: &mut Side<T>,
+    down: &mut Side<T>,
+    first: usize,
+    second: usize,
+    sums: &mut Rows<T>,
+) -> Result<(), Num>
+    requires part { AreParts rows.now up.old down.old }
+    requires first { first < length up.old.rising }
+    requires second { second < length down.old.rising }
+    ensures same { (up.new ≡ up.old) × (down.new ≡ down.old) }
+    ensures sums { MatchResult result (λ _. AddsSums (IsSettled rows.now up.old down.old) up.old.rising down.old.rising (λ i k. (i ≡ first) × (k ≡ second)) sums.old sums.new) (λ e. e ≡ Num.Range → SomeLarge T.HALF (Contains (up.old.rising ++ down.old.rising))) }
+{
+    if is_settled(alloc, rows, up, down, first, second) {
+        return Ok(());
+    }
+    add_sum(alloc, sums, up.rising_at(first), down.rising_at(second))
 }
 
 /// Appends the sum of two vectors.
