@@ -16,6 +16,7 @@ mod spell;
 mod symbol;
 mod writing;
 
+pub use fault::{byte_at, digit, numeric, piece_fault, role_fault};
 pub use file::{File, Goals, Item, Items};
 pub use kind::{Goal, Kind, Mode, WORDS, Word};
 pub use laws::{
@@ -25,5 +26,6 @@ pub use laws::{
 pub use nz_vec::NoMemory;
 pub use reading::read;
 pub use refusal::{Fault, ReadRefusal};
+pub use spell::{DigitFront, common, count, digit_run, number, word};
 pub use symbol::{Role, Symbol};
 pub use writing::write;

@@ -8,12 +8,13 @@ use crate::symbol::{Role, Symbol};
 
 /// Digits in front of a piece.
 #[derive(Clone, Copy, Drop)]
-struct Digits {
-    len: usize,
-    total: u64,
+pub struct DigitFront {
+    pub len: usize,
+    pub total: u64,
 }
 
-fn digit_run(piece: &[u8], greatest: u64) -> Digits
+/// The longest run of digits in front with a value of at most the greatest.
+pub fn digit_run(piece: &[u8], greatest: u64) -> DigitFront
     requires { greatest ≤ 10 ^ 18 }
     ensures { IsRun piece.now greatest result.len result.total }
 {
@@ -22,16 +23,16 @@ fn digit_run(piece: &[u8], greatest: u64) -> Digits
     while len < piece.len() {
         let b = piece[len];
         if b < b'0' || b > b'9' {
-            return Digits { len, total };
+            return DigitFront { len, total };
         }
         let more = total * 10 + (b - b'0') as u64;
         if more > greatest {
-            return Digits { len, total };
+            return DigitFront { len, total };
         }
         total = more;
         len += 1;
     }
-    Digits { len, total }
+    DigitFront { len, total }
 }
 
 pub fn dimension(piece: &[u8]) -> Result<Symbol, usize>
@@ -111,7 +112,8 @@ pub fn number(piece: &[u8]) -> Result<Symbol, usize>
     }
 }
 
-fn common(left: &[u8], right: &[u8]) -> usize
+/// How many bytes in front are the same.
+pub fn common(left: &[u8], right: &[u8]) -> usize
     ensures { IsCommon left.now right.now result }
 {
     let mut n = 0;
