@@ -16,7 +16,7 @@ use Rattle.nz_scalar.specs.Room.{HasRoom}
 use Rattle.nz_vec.specs.Sums.{SumsFit}
 use Rattle.nz_range.specs.Measures.{measure, SomeLargeAt}
 use Rattle.nz_range.proofs.Causes.{value_cause}
-use Rattle.nz_reducer.specs.Tables.{NoneIsBelow, IsFirstBelow}
+use Rattle.nz_reducer.specs.Tables.{NoneIsBelow, HasAnyBelow}
 use Rattle.nz_vec.specs.declared.answers.Num.{Num}
 use Rattle.nz_vec.specs.declared.answers.Num.TheVariants as num
 use Rattle.nz_vec.specs.declared.answers.Work.{Work}
@@ -189,12 +189,13 @@ not_on_side rows last l x z e v n i =
     let d = v ∙ ap (λ (f : Vector). dot f x) e in
     omega (arith, ints, p, d, n)
 
-pub handled_first : (limit : ℕ) (rows : List Vector) (s inside : SideLists) (x values : Vector) (place : ℕ) (z : ℤ) → inside ≡ s → IsSide limit rows s → z ≡ dot inside.last x → values ≡ values_at rows x ++ z ∷ [] → IsFirstBelow inside.values values place → Handles rows s.last s.elements x
-handled_first limit rows s inside x values place z e i v k f = λ j.
+pub handled_found : (limit : ℕ) (rows : List Vector) (s inside : SideLists) (x values : Vector) (z : ℤ) → inside ≡ s → IsSide limit rows s → z ≡ dot inside.last x → values ≡ values_at rows x ++ z ∷ [] → HasAnyBelow inside.values values → Handles rows s.last s.elements x
+handled_found limit rows s inside x values z e i v k f = λ j.
     let fs = rows ++ s.last ∷ [] in
     let is_values : values ≡ values_at fs x = k ∙ ap (λ (a : ℤ). values_at rows x ++ a ∷ []) (v ∙ ap (λ (t : SideLists). dot t.last x) e) ∙ sym (values_split rows s.last x) in
     let table : inside.values ≡ map (values_at fs) s.elements = ap (λ (t : SideLists). t.values) e ∙ i.values in
-    let g = subst (λ (u : Vector). IsFirstBelow (map (values_at fs) s.elements) u place) is_values (subst (λ (ts : List Vector). IsFirstBelow ts values place) table f) in
+    let g = subst (λ (u : Vector). HasAnyBelow (map (values_at fs) s.elements) u) is_values (subst (λ (ts : List Vector). HasAnyBelow ts values) table f) in
+    let place = g.place in
     let inside_list : place < length s.elements = omega (arith, g.inside, length-map s.elements (values_at fs)) in
     let c = contains_at s.elements place [] inside_list in
     let b = subst (λ (u : Vector). IsBelow u (values_at fs x)) (get_or-map (values_at fs) s.elements place [] [] inside_list) g.below in

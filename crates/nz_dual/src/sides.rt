@@ -11,7 +11,7 @@ ghost use Rattle.nz_dual.specs.Sides.{IsEmpty, IsSide, IsSideElement, IsNoted, I
 use crate::classes::DegreeClasses;
 use crate::levels::shared;
 use crate::values::{size_of, values_before};
-use nz_reducer::{DegreeTable, Table};
+use nz_reducer::DegreeTable;
 use nz_vec::{NoMemory, Num, Row, Rows, Scalar, Work, is_negative, is_positive};
 use std::alloc::Global;
 use std::marker::Model;
@@ -89,10 +89,10 @@ impl<T: Scalar> Side<T> {
             Ok(values) => values,
             Err(refusal) => return Err(work_of(refusal)),
         };
-        match self.table.first(&values) {
-            Some(_) => Ok(()),
-            None => self.keep_alone(rows, x, &values, limit),
+        if self.has_below(&values) {
+            return Ok(());
         }
+        self.keep_alone(rows, x, &values, limit)
     }
 
     /// The same of a vector at which the last form is 0, with its values, which the table then shares.
@@ -113,10 +113,10 @@ impl<T: Scalar> Side<T> {
         requires slice { map T.integer (rc_slice_items slice.now) ≡ values.now }
         ensures { MatchResult result (λ _. HasGrown limit rows.now self.old self.new × Handles rows.now self.old.last self.new.elements x.now) (IsOfferRefusal T.HALF limit rows.now self.old.last (λ v. v ≡ x.now)) }
     {
-        match self.table.first(values) {
-            Some(_place) => Ok(()),
-            None => self.keep(rows, x, values, slice, limit),
+        if self.has_below(values) {
+            return Ok(());
         }
+        self.keep(rows, x, values, slice, limit)
     }
 
     /// Keeps a vector with these values, which no other side holds.
