@@ -153,6 +153,7 @@ abbrev pub strict_outcome : OutcomeData
 strict_outcome = record {
   amb = 1;
   level = true;
+  denominator = None;
   modules = Some ((pos 1 ∷ pos 1 ∷ []) ∷ []);
   hilbert = Some ((pos 1 ∷ pos 0 ∷ []) ∷ []);
   degree_one = None;
@@ -171,6 +172,7 @@ strict_solved mode = record {
   graded = tt;
   amb = refl;
   level = refl;
+  denominator = refl;
   modules = strict_modules;
   hilbert = strict_basis;
   degree_one = refl;

@@ -7,12 +7,14 @@ use Rattle.nz_spec.specs.Vectors.{Vector, HasWidth}
 use Rattle.nz_spec.specs.Order.{StandsBefore, Pairwise, IsListOf}
 use Rattle.nz_spec.specs.Systems.{System, IsSystem, IsMember, asked_member}
 use Rattle.nz_spec.specs.Monoids.{IsModuleGenerator, IsExtreme, IsLeastLine}
-use Rattle.nz_spec.specs.Elements.{IsHilbertElement, IsHilbertBasis, IsOfDegree, AreModuleGenerators, AreDegreeOne, IsRayElement, IsVertexElement, AreRays, AreVertices, IsSupportDescription, IsCoverOf, IsFirstNotPositive}
+use Rattle.nz_spec.specs.Elements.{IsHilbertElement, IsHilbertBasis, IsOfDegree, AreModuleGenerators, IsRayElement, IsVertexElement, AreRays, AreVertices, IsSupportDescription, IsCoverOf, IsFirstNotPositive}
 use Rattle.nz_spec.specs.Forms.{IsDescription}
 use Rattle.nz_spec.specs.Parts.{NamesRest}
 use Rattle.nz_spec.proofs.ListLaws.{IsListOf-unique, StandsBefore-asymmetric, Each-weaker}
 use Rattle.nz_spec.proofs.PartsLaws.{TakesApart-unique}
 use Rattle.nz_spec.proofs.UniqueLaws.{IsDescription-unique}
+use Rattle.nz_further.specs.Denominators.{IsDenominator}
+use Rattle.nz_further.proofs.DenominatorLaws.{denominator_unique}
 use Rattle.nz_order.proofs.OrderLaws.{stands_irreflexive}
 use Rattle.nz_order.proofs.SortLaws.{Pairwise-different}
 use Rattle.nz_vec.specs.Conditions.{condition_of}
@@ -22,8 +24,9 @@ use Rattle.nz_member.specs.declared.reply.Reply.{Reply}
 use Rattle.nz_member.specs.declared.reply.Reply.TheVariants.{Parts, Outside}
 use Rattle.nz_system.specs.Meaning.{SystemData}
 use Rattle.nz_blocks.specs.Outcomes.{Asked, OutcomeData}
+use Rattle.nz_blocks.proofs.OneOutcome.{same_fields}
 use Rattle.nz_solve.specs.Replies.{IsWhere, AreWhere, IsReplyOf, AreAnswered}
-use Rattle.nz_solve.specs.Solutions.{IsSolution, wants_basis, wants_modules, wants_vertices}
+use Rattle.nz_solve.specs.Solutions.{IsSolution, DividesDegrees, HasDenominator, AreOfDegreeOne, wants_basis, wants_modules, wants_vertices}
 use Rattle.nz_frame.proofs.SweepLaws.{one_outside}
 use Rattle.nz_frame.proofs.GradeLaws.{graded_has_none}
 use Rattle.nz_frame.proofs.GroupLaws.{outside_is_no_member}
@@ -62,10 +65,24 @@ one_of s P xs ys h k = IsListOf-unique (StandsBefore s.grading) (StandsBefore-as
 same_grading : (g h : Vector) → Some g ≡ Some h → g ≡ h
 same_grading g h e = cc
 
-one_degree : (s : System) (d : ℤ) (xs ys : List Vector) → AreDegreeOne s d xs → AreDegreeOne s d ys → xs ≡ ys
-one_degree s d xs ys h k =
-    let e = same_grading k.grading h.grading (sym k.given ∙ h.given) in
-    one_of s (IsOfDegree s h.grading d) xs ys h.list (subst (λ (g : Vector). IsListOf (StandsBefore s.grading) (IsOfDegree s g d) ys) e k.list)
+one_degree : (s : System) (o : Option ℤ) (xs ys : List Vector) → AreOfDegreeOne s o xs → AreOfDegreeOne s o ys → xs ≡ ys
+one_degree s None xs ys h k = absurd h
+one_degree s (Some d) xs ys h k =
+    let a = h.of_degree in
+    let b = k.of_degree in
+    let e = same_grading b.grading a.grading (sym b.given ∙ a.given) in
+    one_of s (IsOfDegree s a.grading d) xs ys a.list (subst (λ (g : Vector). IsListOf (StandsBefore s.grading) (IsOfDegree s g d) ys) e b.list)
+
+one_divisor : (s : System) (grading : Vector) (g d : ℤ) → DividesDegrees s grading g → DividesDegrees s grading d → g ≡ d
+one_divisor s grading g d h k =
+    let e = one_of s (IsHilbertElement s) k.basis h.basis k.is_basis h.is_basis in
+    denominator_unique grading h.basis g d h.denominator (subst (λ (xs : List Vector). IsDenominator grading xs d) e k.denominator)
+
+one_denominator : (s : System) (grading : Option Vector) (o p : Option ℤ) → HasDenominator s grading o → HasDenominator s grading p → o ≡ p
+one_denominator s None o p h k = h ∙ sym k
+one_denominator s (Some f) None p h k = absurd h
+one_denominator s (Some f) (Some g) None h k = absurd k
+one_denominator s (Some f) (Some g) (Some d) h k = ap (λ (z : ℤ). Some z) (one_divisor s f g d h k)
 
 one_description : (s : System) (fs gs es ds : List Vector) → IsSupportDescription s fs es → IsSupportDescription s gs ds → (fs ≡ gs) × (es ≡ ds)
 one_description s fs gs es ds h k =
@@ -160,33 +177,17 @@ one_answered s is (Some xs) (Some a) (Some b) h k =
     (subst (λ (l : Option (List Vector)). AllZip (λ (x : Vector) (r : Asked). (r.0 ≡ x) × IsReplyOf (λ z. z) s k.hilbert l (asked_member s x) r.1) xs b) m k.each)))
 
 -- ---- one outcome
-same_outcome : (o p : OutcomeData) → o.amb ≡ p.amb → o.level ≡ p.level → o.modules ≡ p.modules → o.hilbert ≡ p.hilbert → o.degree_one ≡ p.degree_one → o.vertices ≡ p.vertices → o.rays ≡ p.rays → o.support ≡ p.support → o.equations ≡ p.equations → o.generators ≡ p.generators → o.simplices ≡ p.simplices → o.asked ≡ p.asked → o ≡ p
-same_outcome o p e0 e1 e2 e3 e4 e5 e6 e7 e8 e9 e10 e11 =
-    let s0 : record { amb = o.amb; level = o.level; modules = o.modules; hilbert = o.hilbert; degree_one = o.degree_one; vertices = o.vertices; rays = o.rays; support = o.support; equations = o.equations; generators = o.generators; simplices = o.simplices; asked = o.asked } ≡ record { amb = p.amb; level = o.level; modules = o.modules; hilbert = o.hilbert; degree_one = o.degree_one; vertices = o.vertices; rays = o.rays; support = o.support; equations = o.equations; generators = o.generators; simplices = o.simplices; asked = o.asked } = ap (λ (x : ℕ). record { amb = x; level = o.level; modules = o.modules; hilbert = o.hilbert; degree_one = o.degree_one; vertices = o.vertices; rays = o.rays; support = o.support; equations = o.equations; generators = o.generators; simplices = o.simplices; asked = o.asked }) e0 in
-    let s1 : record { amb = p.amb; level = o.level; modules = o.modules; hilbert = o.hilbert; degree_one = o.degree_one; vertices = o.vertices; rays = o.rays; support = o.support; equations = o.equations; generators = o.generators; simplices = o.simplices; asked = o.asked } ≡ record { amb = p.amb; level = p.level; modules = o.modules; hilbert = o.hilbert; degree_one = o.degree_one; vertices = o.vertices; rays = o.rays; support = o.support; equations = o.equations; generators = o.generators; simplices = o.simplices; asked = o.asked } = ap (λ (x : Bool). record { amb = p.amb; level = x; modules = o.modules; hilbert = o.hilbert; degree_one = o.degree_one; vertices = o.vertices; rays = o.rays; support = o.support; equations = o.equations; generators = o.generators; simplices = o.simplices; asked = o.asked }) e1 in
-    let s2 : record { amb = p.amb; level = p.level; modules = o.modules; hilbert = o.hilbert; degree_one = o.degree_one; vertices = o.vertices; rays = o.rays; support = o.support; equations = o.equations; generators = o.generators; simplices = o.simplices; asked = o.asked } ≡ record { amb = p.amb; level = p.level; modules = p.modules; hilbert = o.hilbert; degree_one = o.degree_one; vertices = o.vertices; rays = o.rays; support = o.support; equations = o.equations; generators = o.generators; simplices = o.simplices; asked = o.asked } = ap (λ (x : Option (List Vector)). record { amb = p.amb; level = p.level; modules = x; hilbert = o.hilbert; degree_one = o.degree_one; vertices = o.vertices; rays = o.rays; support = o.support; equations = o.equations; generators = o.generators; simplices = o.simplices; asked = o.asked }) e2 in
-    let s3 : record { amb = p.amb; level = p.level; modules = p.modules; hilbert = o.hilbert; degree_one = o.degree_one; vertices = o.vertices; rays = o.rays; support = o.support; equations = o.equations; generators = o.generators; simplices = o.simplices; asked = o.asked } ≡ record { amb = p.amb; level = p.level; modules = p.modules; hilbert = p.hilbert; degree_one = o.degree_one; vertices = o.vertices; rays = o.rays; support = o.support; equations = o.equations; generators = o.generators; simplices = o.simplices; asked = o.asked } = ap (λ (x : Option (List Vector)). record { amb = p.amb; level = p.level; modules = p.modules; hilbert = x; degree_one = o.degree_one; vertices = o.vertices; rays = o.rays; support = o.support; equations = o.equations; generators = o.generators; simplices = o.simplices; asked = o.asked }) e3 in
-    let s4 : record { amb = p.amb; level = p.level; modules = p.modules; hilbert = p.hilbert; degree_one = o.degree_one; vertices = o.vertices; rays = o.rays; support = o.support; equations = o.equations; generators = o.generators; simplices = o.simplices; asked = o.asked } ≡ record { amb = p.amb; level = p.level; modules = p.modules; hilbert = p.hilbert; degree_one = p.degree_one; vertices = o.vertices; rays = o.rays; support = o.support; equations = o.equations; generators = o.generators; simplices = o.simplices; asked = o.asked } = ap (λ (x : Option (List Vector)). record { amb = p.amb; level = p.level; modules = p.modules; hilbert = p.hilbert; degree_one = x; vertices = o.vertices; rays = o.rays; support = o.support; equations = o.equations; generators = o.generators; simplices = o.simplices; asked = o.asked }) e4 in
-    let s5 : record { amb = p.amb; level = p.level; modules = p.modules; hilbert = p.hilbert; degree_one = p.degree_one; vertices = o.vertices; rays = o.rays; support = o.support; equations = o.equations; generators = o.generators; simplices = o.simplices; asked = o.asked } ≡ record { amb = p.amb; level = p.level; modules = p.modules; hilbert = p.hilbert; degree_one = p.degree_one; vertices = p.vertices; rays = o.rays; support = o.support; equations = o.equations; generators = o.generators; simplices = o.simplices; asked = o.asked } = ap (λ (x : Option (List Vector)). record { amb = p.amb; level = p.level; modules = p.modules; hilbert = p.hilbert; degree_one = p.degree_one; vertices = x; rays = o.rays; support = o.support; equations = o.equations; generators = o.generators; simplices = o.simplices; asked = o.asked }) e5 in
-    let s6 : record { amb = p.amb; level = p.level; modules = p.modules; hilbert = p.hilbert; degree_one = p.degree_one; vertices = p.vertices; rays = o.rays; support = o.support; equations = o.equations; generators = o.generators; simplices = o.simplices; asked = o.asked } ≡ record { amb = p.amb; level = p.level; modules = p.modules; hilbert = p.hilbert; degree_one = p.degree_one; vertices = p.vertices; rays = p.rays; support = o.support; equations = o.equations; generators = o.generators; simplices = o.simplices; asked = o.asked } = ap (λ (x : Option (List Vector)). record { amb = p.amb; level = p.level; modules = p.modules; hilbert = p.hilbert; degree_one = p.degree_one; vertices = p.vertices; rays = x; support = o.support; equations = o.equations; generators = o.generators; simplices = o.simplices; asked = o.asked }) e6 in
-    let s7 : record { amb = p.amb; level = p.level; modules = p.modules; hilbert = p.hilbert; degree_one = p.degree_one; vertices = p.vertices; rays = p.rays; support = o.support; equations = o.equations; generators = o.generators; simplices = o.simplices; asked = o.asked } ≡ record { amb = p.amb; level = p.level; modules = p.modules; hilbert = p.hilbert; degree_one = p.degree_one; vertices = p.vertices; rays = p.rays; support = p.support; equations = o.equations; generators = o.generators; simplices = o.simplices; asked = o.asked } = ap (λ (x : Option (List Vector)). record { amb = p.amb; level = p.level; modules = p.modules; hilbert = p.hilbert; degree_one = p.degree_one; vertices = p.vertices; rays = p.rays; support = x; equations = o.equations; generators = o.generators; simplices = o.simplices; asked = o.asked }) e7 in
-    let s8 : record { amb = p.amb; level = p.level; modules = p.modules; hilbert = p.hilbert; degree_one = p.degree_one; vertices = p.vertices; rays = p.rays; support = p.support; equations = o.equations; generators = o.generators; simplices = o.simplices; asked = o.asked } ≡ record { amb = p.amb; level = p.level; modules = p.modules; hilbert = p.hilbert; degree_one = p.degree_one; vertices = p.vertices; rays = p.rays; support = p.support; equations = p.equations; generators = o.generators; simplices = o.simplices; asked = o.asked } = ap (λ (x : Option (List Vector)). record { amb = p.amb; level = p.level; modules = p.modules; hilbert = p.hilbert; degree_one = p.degree_one; vertices = p.vertices; rays = p.rays; support = p.support; equations = x; generators = o.generators; simplices = o.simplices; asked = o.asked }) e8 in
-    let s9 : record { amb = p.amb; level = p.level; modules = p.modules; hilbert = p.hilbert; degree_one = p.degree_one; vertices = p.vertices; rays = p.rays; support = p.support; equations = p.equations; generators = o.generators; simplices = o.simplices; asked = o.asked } ≡ record { amb = p.amb; level = p.level; modules = p.modules; hilbert = p.hilbert; degree_one = p.degree_one; vertices = p.vertices; rays = p.rays; support = p.support; equations = p.equations; generators = p.generators; simplices = o.simplices; asked = o.asked } = ap (λ (x : Option (List Vector)). record { amb = p.amb; level = p.level; modules = p.modules; hilbert = p.hilbert; degree_one = p.degree_one; vertices = p.vertices; rays = p.rays; support = p.support; equations = p.equations; generators = x; simplices = o.simplices; asked = o.asked }) e9 in
-    let s10 : record { amb = p.amb; level = p.level; modules = p.modules; hilbert = p.hilbert; degree_one = p.degree_one; vertices = p.vertices; rays = p.rays; support = p.support; equations = p.equations; generators = p.generators; simplices = o.simplices; asked = o.asked } ≡ record { amb = p.amb; level = p.level; modules = p.modules; hilbert = p.hilbert; degree_one = p.degree_one; vertices = p.vertices; rays = p.rays; support = p.support; equations = p.equations; generators = p.generators; simplices = p.simplices; asked = o.asked } = ap (λ (x : Option (List (List ℕ))). record { amb = p.amb; level = p.level; modules = p.modules; hilbert = p.hilbert; degree_one = p.degree_one; vertices = p.vertices; rays = p.rays; support = p.support; equations = p.equations; generators = p.generators; simplices = x; asked = o.asked }) e10 in
-    let s11 : record { amb = p.amb; level = p.level; modules = p.modules; hilbert = p.hilbert; degree_one = p.degree_one; vertices = p.vertices; rays = p.rays; support = p.support; equations = p.equations; generators = p.generators; simplices = p.simplices; asked = o.asked } ≡ record { amb = p.amb; level = p.level; modules = p.modules; hilbert = p.hilbert; degree_one = p.degree_one; vertices = p.vertices; rays = p.rays; support = p.support; equations = p.equations; generators = p.generators; simplices = p.simplices; asked = p.asked } = ap (λ (x : Option (List Asked)). record { amb = p.amb; level = p.level; modules = p.modules; hilbert = p.hilbert; degree_one = p.degree_one; vertices = p.vertices; rays = p.rays; support = p.support; equations = p.equations; generators = p.generators; simplices = p.simplices; asked = x }) e11 in
-    let whole : o ≡ p = s0 ∙ s1 ∙ s2 ∙ s3 ∙ s4 ∙ s5 ∙ s6 ∙ s7 ∙ s8 ∙ s9 ∙ s10 ∙ s11 in
-    whole
-
 -- two outcomes of one system with the same goals are the same, where no cover is wanted
 pub one_solution : (s : SystemData) → IsSystem s.system → s.goals.cover ≡ false → (o p : OutcomeData) → IsSolution s o → IsSolution s p → o ≡ p
 one_solution s is uncovered o p h k =
     let S = s.system in
     let described = two_where s.goals.hyperplanes (IsSupportDescription S) (one_description S) o.support p.support o.equations p.equations h.description k.description in
     let covered = none_where s.goals.cover (IsCoverOf S) uncovered o.generators p.generators o.simplices p.simplices h.cover k.cover in
-    same_outcome o p (h.amb ∙ sym k.amb) (h.level ∙ sym k.level)
+    let divided = one_denominator S S.grading o.denominator p.denominator h.denominator k.denominator in
+    same_fields o p (h.amb ∙ sym k.amb) (h.level ∙ sym k.level) divided
     (one_where (wants_modules s) (AreModuleGenerators S) (one_of S (IsModuleGenerator (IsMember S))) o.modules p.modules h.modules k.modules)
     (one_where (wants_basis s) (IsHilbertBasis S) (one_of S (IsHilbertElement S)) o.hilbert p.hilbert h.hilbert k.hilbert)
-    (one_where s.goals.degree_one (AreDegreeOne S (pos 1)) (one_degree S (pos 1)) o.degree_one p.degree_one h.degree_one k.degree_one)
+    (one_where s.goals.degree_one (AreOfDegreeOne S o.denominator) (one_degree S o.denominator) o.degree_one p.degree_one h.degree_one (subst (λ (d : Option ℤ). IsWhere s.goals.degree_one (AreOfDegreeOne S d) p.degree_one) (sym divided) k.degree_one))
     (one_where (wants_vertices s) (AreVertices S) (one_of S (IsVertexElement S)) o.vertices p.vertices h.vertices k.vertices)
     (one_where s.goals.rays (AreRays S) (one_of S (IsRayElement S)) o.rays p.rays h.rays k.rays)
     described.first described.second covered.first covered.second
@@ -194,7 +195,7 @@ one_solution s is uncovered o p h k =
 
 -- the mode says nothing of the outcome
 pub other_mode : (S : System) (goals : GoalSet) (m n : Mode) (o : OutcomeData) → IsSolution (record { system = S; goals = goals; mode = m }) o → IsSolution (record { system = S; goals = goals; mode = n }) o
-other_mode S goals m n o h = record { positive = h.positive; graded = h.graded; amb = h.amb; level = h.level; modules = h.modules; hilbert = h.hilbert; degree_one = h.degree_one; vertices = h.vertices; rays = h.rays; description = h.description; cover = h.cover; asked = h.asked }
+other_mode S goals m n o h = record { positive = h.positive; graded = h.graded; amb = h.amb; level = h.level; denominator = h.denominator; modules = h.modules; hilbert = h.hilbert; degree_one = h.degree_one; vertices = h.vertices; rays = h.rays; description = h.description; cover = h.cover; asked = h.asked }
 
 pub modes_agree : (S : System) (goals : GoalSet) (m n : Mode) (o p : OutcomeData) → IsSystem S → goals.cover ≡ false → IsSolution (record { system = S; goals = goals; mode = m }) o → IsSolution (record { system = S; goals = goals; mode = n }) p → o ≡ p
 modes_agree S goals m n o p is uncovered h k = one_solution (record { system = S; goals = goals; mode = m }) is uncovered o p h (other_mode S goals n m p k)

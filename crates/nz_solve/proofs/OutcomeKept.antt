@@ -1,5 +1,5 @@
 -- A solved system has an outcome of the shapes that every outcome keeps.
-use Rattle.std.proofs.Common.{◌≡◌, ℕ, ◌-◌, ◌<◌, ◌≤◌, List, [], ◌∷◌, length, map, Option, Some, None, IfSome, IsTrue, Bool, true, false, ℤ, pos, ◌≤ℤ◌, refl, sym, ap, ap₂, ◌∙◌, subst, arith}
+use Rattle.std.proofs.Common.{◌≡◌, ℕ, ◌-◌, ◌<◌, ◌≤◌, List, [], ◌∷◌, length, map, Option, Some, None, IfSome, IsSome, IsTrue, Bool, true, false, ℤ, pos, ◌≤ℤ◌, refl, sym, ap, ap₂, ◌∙◌, subst, arith}
 use Rattle.std.specs.Prelude.{is_some, ◌&&◌, ◌||◌}
 use Rattle.std.proofs.lemmas.Int.{ints}
 use Rattle.std.proofs.lemmas.List.{length-map, length-replicate}
@@ -9,16 +9,16 @@ use Rattle.nz_spec.specs.Systems.{System, IsSystem, IsMember, file_width, asked_
 use Rattle.nz_spec.specs.Monoids.{IsModuleGenerator, IsExtreme}
 use Rattle.nz_spec.specs.Forms.{IsSupportForm, IsEquationAt}
 use Rattle.nz_spec.specs.Covers.{IsSimplex}
-use Rattle.nz_spec.specs.Elements.{IsHilbertElement, IsHilbertBasis, IsOfDegree, AreModuleGenerators, AreDegreeOne, IsRayElement, IsVertexElement, AreRays, AreVertices, IsSupportDescription, IsCoverOf}
+use Rattle.nz_spec.specs.Elements.{IsHilbertElement, IsHilbertBasis, IsOfDegree, AreModuleGenerators, IsRayElement, IsVertexElement, AreRays, AreVertices, IsSupportDescription, IsCoverOf}
 use Rattle.nz_spec.specs.Parts.{NamesRest, TakesApart, leaves, takes}
 use Rattle.nz_spec.proofs.PartsSums.{length-one_more}
 use Rattle.nz_linear.proofs.Lists.{each_map, zip_to_right}
 use Rattle.nz_member.specs.declared.reply.Reply.{Reply}
 use Rattle.nz_member.specs.declared.reply.Reply.TheVariants.{Parts, Outside}
 use Rattle.nz_system.specs.Meaning.{SystemData}
-use Rattle.nz_blocks.specs.Outcomes.{Asked, OutcomeData, IsOutcome, AreRows, IsAsked, HasText, row_width, width_at, number}
+use Rattle.nz_blocks.specs.Outcomes.{Asked, OutcomeData, IsOutcome, IsDivisor, AreRows, IsAsked, HasText, row_width, width_at, number}
 use Rattle.nz_solve.specs.Replies.{IsWhere, AreWhere, IsReplyOf, AreAnswered}
-use Rattle.nz_solve.specs.Solutions.{IsSolution, wants_basis, wants_modules, wants_vertices}
+use Rattle.nz_solve.specs.Solutions.{IsSolution, HasDenominator, AreOfDegreeOne, wants_basis, wants_modules, wants_vertices}
 use Rattle.nz_solve.proofs.ModesLaw.{one_of, one_where, place_inside}
 
 -- ---- what is wanted
@@ -49,6 +49,22 @@ both_where true P (Some x) (Some y) h = refl
 both_where true P (Some x) None h = absurd h
 both_where true P None p h = absurd h
 both_where false P o p h = ap is_some h.1 ∙ sym (ap is_some h.0)
+
+-- the elements of degree 1 are as wide as the system, and come with a denominator
+ones_wide : (s : System) (o : Option ℤ) (xs : List Vector) → AreOfDegreeOne s o xs → Each (HasWidth s.width) xs
+ones_wide s None xs k = absurd k
+ones_wide s (Some g) xs k = each_map (IsOfDegree s k.of_degree.grading g) (HasWidth s.width) xs (λ x e. e.element.irreducible.member.width) k.of_degree.list.only
+
+divided_kept : (s : System) (wanted : Bool) (o : Option ℤ) (ones : Option (List Vector)) → IsWhere wanted (AreOfDegreeOne s o) ones → IsSome ones → IsSome o
+divided_kept s wanted (Some g) ones h k = refl
+divided_kept s true None (Some xs) h k = absurd h
+divided_kept s true None None h k = absurd h
+divided_kept s false None ones h k = subst (λ (q : Option (List Vector)). IsSome q) h k
+
+divisor_kept : (s : System) (grading : Option Vector) (o : Option ℤ) → HasDenominator s grading o → IsDivisor o
+divisor_kept s None o h = subst IsDivisor (sym h) tt
+divisor_kept s (Some f) None h = absurd h
+divisor_kept s (Some f) (Some g) h = h.denominator.at_least
 
 simplices_below : (s : System) (wanted : Bool) (o : Option (List Vector)) (p : Option (List (List ℕ))) → AreWhere wanted (IsCoverOf s) o p → IfSome p (Each (Each (λ i. i < number o)))
 simplices_below s true (Some x) (Some y) h = each_map (IsSimplex s.width x) (Each (λ i. i < length x)) y (λ places k. k.within) h.good.simplices
@@ -152,9 +168,10 @@ module _ (s : SystemData) (is : IsSystem s.system) (o : OutcomeData) (h : IsSolu
   outcome_kept texts = record {
     at_least = subst (λ (n : ℕ). 1 ≤ n) (sym h.amb) is.at_least;
     at_most = subst (λ (n : ℕ). n ≤ 64) (sym h.amb) is.at_most;
+    denominator = divisor_kept S S.grading o.denominator h.denominator;
     modules = at_width o.modules (rows_where (wants_modules s) S.width (AreModuleGenerators S) (λ xs k. each_map (IsModuleGenerator (IsMember S)) (HasWidth S.width) xs (λ x g. g.of_level_one.member.width) k.only) o.modules h.modules);
     hilbert = at_width o.hilbert (rows_where (wants_basis s) S.width (IsHilbertBasis S) (λ xs k. each_map (IsHilbertElement S) (HasWidth S.width) xs (λ x g. g.irreducible.member.width) k.only) o.hilbert h.hilbert);
-    degree_one = at_width o.degree_one (rows_where s.goals.degree_one S.width (AreDegreeOne S (pos 1)) (λ xs k. each_map (IsOfDegree S k.grading (pos 1)) (HasWidth S.width) xs (λ x g. g.element.irreducible.member.width) k.list.only) o.degree_one h.degree_one);
+    degree_one = at_width o.degree_one (rows_where s.goals.degree_one S.width (AreOfDegreeOne S o.denominator) (ones_wide S o.denominator) o.degree_one h.degree_one);
     vertices = at_width o.vertices (rows_where (wants_vertices s) S.width (AreVertices S) (λ xs k. each_map (IsVertexElement S) (HasWidth S.width) xs (λ x g. g.extreme.irreducible.member.width) k.only) o.vertices h.vertices);
     rays = at_width o.rays (rows_where s.goals.rays S.width (AreRays S) (λ xs k. each_map (IsRayElement S) (HasWidth S.width) xs (λ x g. g.extreme.irreducible.member.width) k.only) o.rays h.rays);
     support = at_width o.support (one_where_first s.goals.hyperplanes (IsSupportDescription S) (Each (HasWidth S.width)) (λ x y k. each_map (IsSupportForm S.width k.extreme) (HasWidth S.width) x (λ f g. g.width) k.description.support_forms.only) o.support o.equations h.description);
@@ -166,6 +183,7 @@ module _ (s : SystemData) (is : IsSystem s.system) (o : OutcomeData) (h : IsSolu
     covered = both_where s.goals.cover (IsCoverOf S) o.generators o.simplices h.cover;
     bounded = there_where (wants_vertices s) (AreVertices S) o.vertices h.vertices ∙ ap₂ (λ a b. a && b) (sym (there_where s.goals.rays (AreRays S) o.rays h.rays)) (sym h.level);
     levelled = λ k. h.level ∙ and_left S.level (s.goals.modules || wants_basis s) (sym (there_where (wants_modules s) (AreModuleGenerators S) o.modules h.modules) ∙ k);
+    divided = divided_kept S s.goals.degree_one o.denominator o.degree_one h.degree_one;
     parted = λ k.
         let e : is_some S.asked ≡ true = sym (answered_some S S.asked o.asked h.asked) ∙ k in (
           there_where (wants_basis s) (IsHilbertBasis S) o.hilbert h.hilbert ∙ basis_wanted s e,

@@ -1,5 +1,5 @@
 -- Of the elements of a system what its goals ask.
-use Rattle.std.proofs.Common.{◌≡◌, ℕ, ℤ, ◌-◌, List, Option, Some, None, IfSome, IsSome, Bool, true, false, IsTrue, pos, refl, sym, ap, ◌∙◌, subst, inl, inr}
+use Rattle.std.proofs.Common.{◌≡◌, ℕ, ℤ, ◌-◌, List, Option, Some, None, IfSome, IsSome, Bool, true, false, IsTrue, refl, sym, ap, ◌∙◌, subst, inl, inr}
 use Rattle.std.proofs.lemmas.Bool.{false≢true}
 use Rattle.std.specs.Prelude.{◌&&◌, ◌||◌}
 use Rattle.nz_scalar.specs.Room.{HasRoom}
@@ -9,7 +9,7 @@ use Rattle.nz_spec.specs.Order.{StandsBefore}
 use Rattle.nz_spec.specs.Systems.{System, IsSystem, IsMember, file_width}
 use Rattle.nz_spec.specs.Monoids.{IsIrreducible, IsExtreme}
 use Rattle.nz_spec.specs.Forms.{IsDescription}
-use Rattle.nz_spec.specs.Elements.{IsHilbertElement, IsHilbertBasis, AreModuleGenerators, AreDegreeOne, AreExtreme, AreRays, AreVertices, IsSupportDescription, IsCoverOf}
+use Rattle.nz_spec.specs.Elements.{IsHilbertElement, IsHilbertBasis, AreModuleGenerators, AreExtreme, AreRays, AreVertices, IsSupportDescription, IsCoverOf}
 use Rattle.nz_linear.proofs.Lists.{each_map}
 use Rattle.nz_degree.proofs.ElementLaws.{ones_are_elements}
 use Rattle.nz_system.specs.Meaning.{SystemData, there, IsKept}
@@ -17,10 +17,10 @@ use Rattle.nz_blocks.specs.Outcomes.{Asked, OutcomeData, IsOutcome, HasText}
 use Rattle.nz_measures.specs.Reaches.{HasOwnAbove}
 use Rattle.nz_frame.proofs.LevelLists.{rays_picked, vertices_picked, flat_rays}
 use Rattle.nz_solve.specs.Replies.{IsWhere, AreWhere, AreAnswered}
-use Rattle.nz_solve.specs.Solutions.{IsSolution, wants_basis, wants_modules}
-use Rattle.nz_solve.specs.Parts.{AreElements, AreElementLists, AreOnes, AreParted, IsShownCause, wants_description, amb_at, kept_where}
+use Rattle.nz_solve.specs.Solutions.{IsSolution, HasDenominator, AreOfDegreeOne, wants_basis, wants_modules}
+use Rattle.nz_solve.specs.Parts.{AreElements, AreElementLists, AreDivided, AreParted, IsShownCause, wants_description, amb_at, kept_where}
 use Rattle.nz_solve.proofs.OutcomeKept as shapes
-use Rattle.nz_solve.proofs.RangeLemmas.{degree_refused, irreducible_named, described_refused}
+use Rattle.nz_solve.proofs.RangeLemmas.{denominator_refused, irreducible_named, described_refused}
 
 -- ---- what is wanted is there
 pub where_there : {A : Type 0} (wanted : Bool) (P : A → Type 0) (x : A) (o : Option A) → o ≡ there wanted x → P x → IsWhere wanted P o
@@ -47,14 +47,21 @@ no_grading : (o : Option Vector) → o ≡ None → IsSome o → ⊥
 no_grading None e h = false≢true h
 no_grading (Some g) e h = absurd (let f : Some g ≡ None = e in cc)
 
-ones_there : (s : System) (wanted : Bool) (hilbert : List Vector) (ones : Option (List Vector)) → (IsTrue wanted → IsSome s.grading) → IsHilbertBasis s hilbert → AreOnes wanted s.grading hilbert ones → IsWhere wanted (AreDegreeOne s (pos 1)) ones
-ones_there s false hilbert ones given b h = h
-ones_there s true hilbert ones given b h = by s.grading ones refl h
+denominator_there : (s : System) (wanted : Bool) (grading : Option Vector) (hilbert : List Vector) (o : Option ℤ) (ones : Option (List Vector)) → IsHilbertBasis s hilbert → AreDivided wanted grading hilbert o ones → HasDenominator s grading o
+denominator_there s wanted None hilbert o ones b h = h.0
+denominator_there s wanted (Some f) hilbert None ones b h = absurd h
+denominator_there s wanted (Some f) hilbert (Some g) ones b h = record { basis = hilbert; is_basis = b; denominator = h.0 }
+
+ones_there : (s : System) (wanted : Bool) (hilbert : List Vector) (o : Option ℤ) (ones : Option (List Vector)) → (IsTrue wanted → IsSome s.grading) → IsHilbertBasis s hilbert → AreDivided wanted s.grading hilbert o ones → IsWhere wanted (AreOfDegreeOne s o) ones
+ones_there s wanted hilbert o ones given b h = by s.grading wanted o ones refl given h
   where
-    by : (g : Option Vector) (o : Option (List Vector)) → s.grading ≡ g → AreOnes true g hilbert o → IsWhere true (AreDegreeOne s (pos 1)) o
-    by None o e k = absurd (no_grading s.grading e (given refl))
-    by (Some g) (Some xs) e k = ones_are_elements s g e hilbert xs b k
-    by (Some g) None e k = absurd k
+    by : (f : Option Vector) (wanted : Bool) (o : Option ℤ) (ones : Option (List Vector)) → s.grading ≡ f → (IsTrue wanted → IsSome s.grading) → AreDivided wanted f hilbert o ones → IsWhere wanted (AreOfDegreeOne s o) ones
+    by None true o ones e t k = absurd (no_grading s.grading e (t refl))
+    by None false o ones e t k = k.1
+    by (Some f) wanted None ones e t k = absurd k
+    by (Some f) true (Some g) (Some xs) e t k = ones_are_elements s f e hilbert xs b g k.0 k.1
+    by (Some f) true (Some g) None e t k = absurd k.1
+    by (Some f) false (Some g) ones e t k = k.1
 
 module _ (s : System) (is : IsSystem s) (extreme : List Vector) where
   vertices_there : (wanted level : Bool) (vertices rays : Option (List Vector)) → s.level ≡ level → (IsTrue wanted → AreExtreme s extreme) → AreParted wanted level extreme vertices rays → IsWhere (wanted && level) (AreVertices s) vertices
@@ -97,7 +104,7 @@ hilbert_wide s hilbert b = each_map (IsHilbertElement s) (HasWidth s.width) hilb
 
 -- why something is not shown
 pub shown_refused : (half : ℤ) (fits : ℤ → Type 0) → HasRoom half fits → (s : SystemData) (list extreme : List Vector) (simplices : List (List ℕ)) → AreElements s list extreme simplices → (hilbert : List Vector) → IsHilbertBasis s.system hilbert → IsShownCause half fits s extreme hilbert → HasOwnAbove s.system half
-shown_refused half fits room s list extreme simplices are hilbert b (inl k) = degree_refused s.system half fits room k.form k.given hilbert (irreducible_named s.system are.positive hilbert (each_map (IsHilbertElement s.system) (IsIrreducible (IsMember s.system)) hilbert (λ x h. h.irreducible) b.only)) k.lacks
+shown_refused half fits room s list extreme simplices are hilbert b (inl k) = denominator_refused s.system half fits room k.form k.given hilbert (irreducible_named s.system are.positive hilbert (each_map (IsHilbertElement s.system) (IsIrreducible (IsMember s.system)) hilbert (λ x h. h.irreducible) b.only)) k.lacks
 shown_refused half fits room s list extreme simplices are hilbert b (inr k) = described_refused s.system half extreme are.positive (for_hyperplanes s list extreme simplices are k.0) k.1
 
 -- the same lists, by other names
@@ -109,7 +116,7 @@ elements_same s list extreme extreme' simplices e h = subst (λ (xs : List Vecto
 
 -- ---- the outcome
 module _ (s : SystemData) (kept : IsKept s) (list extreme : List Vector) (covering : List (List ℕ)) (are : AreElements s list extreme covering) (basis : List Vector) (generators_of_module : Option (List Vector)) (lists : AreElementLists s.system basis generators_of_module) (o : OutcomeData)
-    (amb : o.amb ≡ amb_at s.system.level s.system.width) (level : o.level ≡ s.system.level) (modules : o.modules ≡ kept_where (wants_modules s) generators_of_module) (hilbert : o.hilbert ≡ there (wants_basis s) basis) (ones : AreOnes s.goals.degree_one s.system.grading basis o.degree_one)
+    (amb : o.amb ≡ amb_at s.system.level s.system.width) (level : o.level ≡ s.system.level) (modules : o.modules ≡ kept_where (wants_modules s) generators_of_module) (hilbert : o.hilbert ≡ there (wants_basis s) basis) (divided : AreDivided s.goals.degree_one s.system.grading basis o.denominator o.degree_one)
     (parted : AreParted s.goals.rays s.system.level extreme o.vertices o.rays) (described : AreWhere s.goals.hyperplanes (IsDescription s.system.width extreme) o.support o.equations) (generators : o.generators ≡ there s.goals.cover extreme) (simplices : o.simplices ≡ there s.goals.cover covering) (asked : AreAnswered s.system s.system.asked o.asked) where
   pub solution_of : IsSolution s o
   solution_of = record {
@@ -117,9 +124,10 @@ module _ (s : SystemData) (kept : IsKept s) (list extreme : List Vector) (coveri
     graded = lists.graded;
     amb = amb ∙ amb_there s.system s.system.level refl;
     level = level;
+    denominator = denominator_there s.system s.goals.degree_one s.system.grading basis o.denominator o.degree_one lists.basis divided;
     modules = modules_there s.system.level (s.goals.modules || wants_basis s) (AreModuleGenerators s.system) generators_of_module o.modules modules lists.are_modules;
     hilbert = where_there (wants_basis s) (IsHilbertBasis s.system) basis o.hilbert hilbert lists.basis;
-    degree_one = ones_there s.system s.goals.degree_one basis o.degree_one kept.askable.degree_one lists.basis ones;
+    degree_one = ones_there s.system s.goals.degree_one basis o.denominator o.degree_one kept.askable.degree_one lists.basis divided;
     vertices = vertices_there s.system kept.system extreme s.goals.rays s.system.level o.vertices o.rays refl (for_rays s list extreme covering are) parted;
     rays = rays_there s.system kept.system extreme s.goals.rays s.system.level o.vertices o.rays refl (for_rays s list extreme covering are) parted;
     description = description_there s.system s.goals.hyperplanes extreme o.support o.equations (for_hyperplanes s list extreme covering are) described;

@@ -1,5 +1,5 @@
 -- A refused part as a refusal of the system: the number that was too large is one that the run is known to form.
-use Rattle.std.proofs.Common.{◌≡◌, ◌⊎◌, inl, inr, ⊎_elim, ℕ, suc, ◌<◌, ◌≤◌, List, [], ◌∷◌, length, map, get_or, ℤ, pos, ◌*ℤ◌, ◌<ℤ◌, ◌≤ℤ◌, unsigned_abs, Option, Some, None, refl, sym, ap, ◌∙◌, subst, arith}
+use Rattle.std.proofs.Common.{◌≡◌, ◌≢◌, ◌⊎◌, inl, inr, ⊎_elim, ℕ, zero, suc, ◌<◌, ◌≤◌, List, [], ◌∷◌, length, map, get_or, ℤ, pos, negsuc, ◌*ℤ◌, ◌<ℤ◌, ◌≤ℤ◌, unsigned_abs, Option, Some, None, refl, sym, ap, ◌∙◌, subst, arith}
 use Rattle.std.proofs.lemmas.Int.{ints, by_lt_z}
 use Rattle.std.specs.List.{AllByRecursion as Each, Contains}
 use Rattle.nz_spec.specs.Vectors.{Vector, dot, opposite, combination, unit_vectors, HasWidth}
@@ -7,9 +7,16 @@ use Rattle.nz_spec.specs.Systems.{System, IsMember}
 use Rattle.nz_spec.specs.Monoids.{IsPositive, IsIrreducible, IsExtreme}
 use Rattle.nz_spec.specs.Elements.{AreExtreme}
 use Rattle.nz_spec.specs.Forms.{IsNormalForm}
-use Rattle.nz_spec.proofs.ListLaws.{Each-contains, contains_none, contains_cases}
+use Rattle.nz_spec.proofs.ListLaws.{Each-contains, contains_here, contains_there, contains_none, contains_cases}
 use Rattle.nz_spec.proofs.SumLaws.{dot-combination, length-combination}
-use Rattle.nz_scalar.specs.Room.{HasRoom}
+use Rattle.nz_spec.specs.Vectors.{IsMultipleOf}
+use Rattle.nz_spec.specs.Order.{degree}
+use Rattle.nz_spec.proofs.VectorLaws.{int_is_zero}
+use Rattle.nz_further.specs.Denominators.{HaveDegreeZero, IsDenominator}
+use Rattle.nz_further.proofs.DenominatorLaws.{denominator_of}
+use Rattle.nz_scalar.specs.Room.{IsWithin, HasRoom}
+use Rattle.nz_scalar.proofs.RoomLemmas.{one_within}
+use Rattle.nz_scalar.proofs.GcdLemmas.{multiple_neg, divisor_le}
 use Rattle.nz_linear.specs.Cones.{IsInRows}
 use Rattle.nz_linear.specs.Extreme.{IsPointed}
 use Rattle.nz_linear.specs.Coordinates.{in_coordinates}
@@ -22,7 +29,7 @@ use Rattle.nz_vec.specs.declared.answers.Num.{Num}
 use Rattle.nz_vec.specs.declared.answers.Num.TheVariants as num
 use Rattle.nz_range.specs.Measures.{pair_measure}
 use Rattle.nz_range.proofs.Causes.{value_cause}
-use Rattle.nz_range.proofs.Fits.{size_within, within_self, value_size, pair_measure_opposite}
+use Rattle.nz_range.proofs.Fits.{size_within, within_self, value_size, value_within, pair_measure_opposite}
 use Rattle.nz_spec.specs.Covers.{vectors_at}
 use Rattle.nz_spec.specs.Stages.{IsFreshRow, Separates}
 use Rattle.nz_dual.specs.Refusals.{IsRowOf}
@@ -34,7 +41,7 @@ use Rattle.nz_sweep.specs.Lists.{LacksPull, LacksVector}
 use Rattle.nz_watch.specs.Telling.{Watched, HasPassedAll}
 use Rattle.nz_input.specs.declared.kind.Mode.{Mode}
 use Rattle.nz_input.specs.declared.kind.Mode.TheVariants.{Primal, Dual}
-use Rattle.nz_degree.specs.Degrees.{LacksDegree}
+use Rattle.nz_degree.specs.Degrees.{LacksDegree, LacksDenominator}
 use Rattle.nz_measures.specs.Sweeps.{IsSwept}
 use Rattle.nz_measures.specs.Pools as pools
 use Rattle.nz_measures.specs.Pools.{IsPoolAbove, IsAmbientVector, IsAmbientForm, of_base, irreducible, IsRowVector, IsRowForm, normal, generator_there, irreducible_there, order_of, order_from}
@@ -215,6 +222,43 @@ described_refused s half extreme p a k = extreme_described_above half s extreme 
 -- the degree of a named vector is no value
 pub degree_refused : (s : System) (half : ℤ) (fits : ℤ → Type 0) → HasRoom half fits → (grading : Vector) → s.grading ≡ Some grading → (xs : List Vector) → Each (IsAmbientVector s) xs → LacksDegree fits grading xs → HasOwnAbove s half
 degree_refused s half fits room grading given xs named k = of_ambient (pool_pair half (IsAmbientVector s) (IsAmbientForm s) grading k.row (pools.grading given) (Each-contains (IsAmbientVector s) xs k.row named k.listed) (value_cause half fits room grading k.row k.lacks))
+
+-- ---- the denominator
+-- a divisor of a number within the half is within it
+divisor_within : (half g n : ℤ) → pos 1 ≤ℤ g → n ≢ pos 0 → IsWithin half n → IsMultipleOf g n → IsWithin half g
+divisor_within half g (pos zero) l ne w m = absurd (ne refl)
+divisor_within half g (pos (suc k)) l ne w m = let d = divisor_le g (pos (suc k)) (omega (arith, ints, l)) (omega (arith, ints)) m in (omega (arith, ints, l, d, w.1), omega (arith, ints, d, w.1))
+divisor_within half g (negsuc k) l ne w m = let d = divisor_le g (pos (suc k)) (omega (arith, ints, l)) (omega (arith, ints)) (multiple_neg g (negsuc k) m) in (omega (arith, ints, l, d, w.0), omega (arith, ints, d, w.0))
+
+divisor_or_zeros : (half : ℤ) (grading : Vector) (g : ℤ) → pos 1 ≤ℤ g → (xs : List Vector) → Each (λ x. IsWithin half (degree grading x)) xs → Each (λ x. IsMultipleOf g (degree grading x)) xs → IsWithin half g ⊎ HaveDegreeZero grading xs
+divisor_or_zeros half grading g low [] w m = inr tt
+divisor_or_zeros half grading g low (x ∷ xs) w m = elim (int_is_zero (degree grading x)) [
+  | inl z ↦ elim (divisor_or_zeros half grading g low xs w.1 m.1) [ inl f ↦ inl f | inr n ↦ inr (z, n) ]
+  | inr n ↦ inl (divisor_within half g (degree grading x) low n w.0 m.0)
+]
+
+divisor_value : (half : ℤ) (fits : ℤ → Type 0) → HasRoom half fits → (grading : Vector) (xs : List Vector) (g : ℤ) → IsDenominator grading xs g → Each (λ x. IsWithin half (degree grading x)) xs → fits g
+divisor_value half fits room grading xs g is w = elim (divisor_or_zeros half grading g is.at_least xs w is.divides) [
+  | inl f ↦ within_self half fits room g f
+  | inr n ↦ subst fits (sym (is.of_none n)) (within_self half fits room (pos 1) (one_within half fits room))
+]
+
+large_or_within : (half : ℤ) (grading : Vector) (xs : List Vector) → ((x : Vector) × Contains xs x × (half <ℤ pos (pair_measure grading x))) ⊎ Each (λ x. IsWithin half (degree grading x)) xs
+large_or_within half grading [] = inr tt
+large_or_within half grading (x ∷ xs) = by_lt_z half (pos (pair_measure grading x))
+    (λ l. inl (x, contains_here x xs, l))
+    (λ l. elim (large_or_within half grading xs) [
+      | inl k ↦ inl (k.0, contains_there x k.0 xs k.1, k.2)
+      | inr w ↦ inr (value_within half grading x l, w)
+    ])
+
+-- the denominator of the degrees of named vectors is no value
+pub denominator_refused : (s : System) (half : ℤ) (fits : ℤ → Type 0) → HasRoom half fits → (grading : Vector) → s.grading ≡ Some grading → (xs : List Vector) → Each (IsAmbientVector s) xs → LacksDenominator fits grading xs → HasOwnAbove s half
+denominator_refused s half fits room grading given xs named (inl k) = degree_refused s half fits room grading given xs named k
+denominator_refused s half fits room grading given xs named (inr lacks) = elim (large_or_within half grading xs) [
+  | inl k ↦ of_ambient (pool_pair half (IsAmbientVector s) (IsAmbientForm s) grading k.0 (pools.grading given) (Each-contains (IsAmbientVector s) xs k.0 named k.1) k.2)
+  | inr w ↦ (let d = denominator_of grading xs in absurd (lacks d.0 d.1 (divisor_value half fits room grading xs d.0 d.1 w)))
+]
 
 pub irreducible_named : (s : System) → IsPositive (IsMember s) → (xs : List Vector) → Each (IsIrreducible (IsMember s)) xs → Each (IsAmbientVector s) xs
 irreducible_named s p xs i = each_map (IsIrreducible (IsMember s)) (IsAmbientVector s) xs (λ x k. irreducible p k) i

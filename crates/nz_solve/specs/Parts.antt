@@ -11,7 +11,8 @@ use Rattle.nz_spec.specs.Elements.{IsHilbertBasis, AreModuleGenerators, AreExtre
 use Rattle.nz_spec.specs.Constraints.{Constraint}
 use Rattle.nz_spec.specs.Covers.{IsGoodCover}
 use Rattle.nz_order.specs.Picks.{Picks}
-use Rattle.nz_degree.specs.Degrees.{LacksDegree, IsInOrder}
+use Rattle.nz_further.specs.Denominators.{IsDenominator}
+use Rattle.nz_degree.specs.Degrees.{LacksDegree, LacksDenominator, IsInOrder}
 use Rattle.nz_degree.specs.Levels.{IsAtLevel}
 use Rattle.nz_degree.specs.Positivities.{Tells}
 use Rattle.nz_degree.specs.declared.positivity.Positivity.TheVariants.{Positive, NotPositive}
@@ -80,6 +81,12 @@ pub record LacksSomeDegree (fits : ℤ → Type 0) (grading : Option Vector) (li
   pub given : grading ≡ Some form
   pub lacks : LacksDegree fits form list
 
+-- the degree of a row of the list is no value, or the denominator is none
+pub record LacksSomeDenominator (fits : ℤ → Type 0) (grading : Option Vector) (list : List Vector) : Type 0 where
+  pub form : Vector
+  pub given : grading ≡ Some form
+  pub lacks : LacksDenominator fits form list
+
 -- the degree of a row of the first level is no value, or with a level that of one of the second
 abbrev pub IsLevelCause : (ℤ → Type 0) → Bool → Option Vector → (zero one : List Vector) → Type 0
 IsLevelCause fits level grading zero one = LacksSomeDegree fits grading zero ⊎ (IsTrue level × LacksSomeDegree fits grading one)
@@ -109,11 +116,11 @@ pub record AreElementLists (s : System) (hilbert : List Vector) (modules : Optio
   pub basis : IsHilbertBasis s hilbert
   pub are_modules : IsWhere s.level (AreModuleGenerators s) modules
 
--- where they are wanted and a grading is given, the rows of degree 1
-abbrev pub AreOnes : (wanted : Bool) → Option Vector → List Vector → Option (List Vector) → Type 0
-AreOnes false grading hilbert ones = ones ≡ None
-AreOnes true None hilbert ones = ones ≡ None
-AreOnes true (Some grading) hilbert ones = IsWhere true (Picks (λ x. degree grading x ≡ pos 1) hilbert) ones
+-- where a grading is given, the denominator of the degrees, and where they are wanted the rows of which it is the degree
+abbrev pub AreDivided : (wanted : Bool) → Option Vector → List Vector → Option ℤ → Option (List Vector) → Type 0
+AreDivided wanted None hilbert o ones = (o ≡ None) × (ones ≡ None)
+AreDivided wanted (Some grading) hilbert None ones = ⊥
+AreDivided wanted (Some grading) hilbert (Some g) ones = IsDenominator grading hilbert g × IsWhere wanted (Picks (λ x. degree grading x ≡ g) hilbert) ones
 
 -- where they are wanted, all without a level, and with one those of positive level and those of level 0
 abbrev pub AreParted : (wanted level : Bool) → List Vector → (vertices rays : Option (List Vector)) → Type 0
@@ -131,9 +138,9 @@ abbrev pub amb_at : Bool → ℕ → ℕ
 amb_at true width = width - 1
 amb_at false width = width
 
--- why something is not shown: a degree is no value, or the description of the extreme generators forms a number above the half
+-- why something is not shown: a degree or the denominator is no value, or the description of the extreme generators forms a number above the half
 abbrev pub IsShownCause : (h : ℤ) → (ℤ → Type 0) → SystemData → (extreme hilbert : List Vector) → Type 0
-IsShownCause h fits s extreme hilbert = LacksSomeDegree fits s.system.grading hilbert ⊎ (IsTrue s.goals.hyperplanes × IsTooLarge h s.system.width extreme)
+IsShownCause h fits s extreme hilbert = LacksSomeDenominator fits s.system.grading hilbert ⊎ (IsTrue s.goals.hyperplanes × IsTooLarge h s.system.width extreme)
 
 -- ---- asked vectors
 

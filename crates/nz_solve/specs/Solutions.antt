@@ -1,9 +1,11 @@
 -- What a solved system answers, in both modes, and why there is no outcome.
-use Rattle.std.specs.Prelude.{◌≡◌, ◌⊎◌, ⊤, ◌<◌, ◌^◌, ◌&&◌, ◌||◌, is_some, ℕ, ℤ, pos, Bool, false, List, []}
+use Rattle.std.specs.Prelude.{◌≡◌, ◌⊎◌, ⊤, Option, Some, None, ◌<◌, ◌^◌, ◌&&◌, ◌||◌, is_some, ℕ, ℤ, pos, Bool, false, List, []}
+use Rattle.nz_spec.specs.Vectors.{Vector}
 use Rattle.nz_spec.specs.Systems.{System, IsMember, file_width}
 use Rattle.nz_spec.specs.Monoids.{IsPositive, IsLeastLine}
-use Rattle.nz_spec.specs.Elements.{IsHilbertBasis, AreModuleGenerators, AreDegreeOne, AreRays, AreVertices, IsSupportDescription, IsCoverOf, IsFirstNotPositive}
+use Rattle.nz_spec.specs.Elements.{IsHilbertBasis, AreModuleGenerators, AreRays, AreVertices, IsSupportDescription, IsCoverOf, IsFirstNotPositive}
 use Rattle.nz_spec.specs.Stages.{ArePrimalStages, AreDualStages, AreTold}
+use Rattle.nz_further.specs.Denominators.{IsDenominator, AreDegreeOneElements}
 use Rattle.nz_watch.specs.Watching.{Pair}
 use Rattle.nz_watch.specs.Telling.{Watched, WasTold, HasPassed, HasPassedAll, HasStopped, HasLeft}
 use Rattle.nz_measures.specs.Crowds.{IsPrimalCrowdAbove}
@@ -32,15 +34,33 @@ wants_modules s = s.system.level && (s.goals.modules || wants_basis s)
 abbrev pub wants_vertices : SystemData → Bool
 wants_vertices s = s.goals.rays && s.system.level
 
+-- g is the denominator of the degrees of the Hilbert basis
+pub record DividesDegrees (s : System) (grading : Vector) (g : ℤ) : Type 0 where
+  pub basis : List Vector
+  pub is_basis : IsHilbertBasis s basis
+  pub denominator : IsDenominator grading basis g
+
+-- where a grading is given there is the denominator of its degrees, and else none
+abbrev pub HasDenominator : System → Option Vector → Option ℤ → Type 0
+HasDenominator s None o = o ≡ None
+HasDenominator s (Some grading) None = ⊥
+HasDenominator s (Some grading) (Some g) = DividesDegrees s grading g
+
+-- the elements of the Hilbert basis whose degree, divided by the denominator, is 1
+abbrev pub AreOfDegreeOne : System → Option ℤ → List Vector → Type 0
+AreOfDegreeOne s None xs = ⊥
+AreOfDegreeOne s (Some g) xs = AreDegreeOneElements s g xs
+
 -- there is no line, and no degree of 0 or less; what is wanted is there, and nothing else
 pub record IsSolution (s : SystemData) (o : OutcomeData) : Type 0 where
   pub positive : IsPositive (IsMember s.system)
   pub graded : IsGraded s.system
   pub amb : o.amb ≡ file_width s.system
   pub level : o.level ≡ s.system.level
+  pub denominator : HasDenominator s.system s.system.grading o.denominator
   pub modules : IsWhere (wants_modules s) (AreModuleGenerators s.system) o.modules
   pub hilbert : IsWhere (wants_basis s) (IsHilbertBasis s.system) o.hilbert
-  pub degree_one : IsWhere s.goals.degree_one (AreDegreeOne s.system (pos 1)) o.degree_one
+  pub degree_one : IsWhere s.goals.degree_one (AreOfDegreeOne s.system o.denominator) o.degree_one
   pub vertices : IsWhere (wants_vertices s) (AreVertices s.system) o.vertices
   pub rays : IsWhere s.goals.rays (AreRays s.system) o.rays
   pub description : AreWhere s.goals.hyperplanes (IsSupportDescription s.system) o.support o.equations

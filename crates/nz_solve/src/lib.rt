@@ -7,6 +7,7 @@
 
 mod by_dual;
 mod by_primal;
+mod divided;
 mod elements;
 mod laws;
 mod lines;

@@ -1,5 +1,5 @@
 // The outcome of a system: of its elements what the goals ask.
-ghost use Rattle.std.specs.Prelude.{◌≡◌, ◌≢◌, ◌≤◌, length, IsTrue, IfOk, IfErr, IfSome, MatchResult};
+ghost use Rattle.std.specs.Prelude.{◌≡◌, ◌≢◌, ◌≤◌, IsTrue, IfOk, IfErr, MatchResult, option_map};
 ghost use Rattle.nz_pointed.specs.Pointed.{IsTooLarge};
 ghost use Rattle.std.specs.List.{AllByRecursion as Each};
 ghost use Rattle.nz_spec.specs.Vectors.{HasWidth};
@@ -8,18 +8,19 @@ ghost use Rattle.nz_degree.specs.Levels.{HasEntry};
 ghost use Rattle.nz_system.specs.Meaning.{there};
 ghost use Rattle.nz_solve.specs.Replies.{AreWhere};
 ghost use Rattle.nz_solve.specs.Solutions.{IsSolution, wants_basis, wants_modules};
-ghost use Rattle.nz_solve.specs.Parts.{AreElements, AreOnes, AreParted, LacksSomeDegree, IsShownCause, IsOutcomeRefusal, wants_description, amb_at, kept_where};
+ghost use Rattle.nz_solve.specs.Parts.{AreElements, AreDivided, AreParted, IsShownCause, IsOutcomeRefusal, wants_description, amb_at, kept_where};
 
+use crate::divided::divided_of;
 use crate::elements::Elements;
 use crate::lists::{ElementLists, element_lists};
 use crate::refusal::{SolveRefusal, unreckoned};
 use crate::replies::answer_asked;
-use crate::widening::{widen_given, widen_rows};
+use crate::widening::{widen_given, widen_number, widen_rows};
 use nz_blocks::Outcome;
-use nz_degree::{degree_one, split_extreme};
+use nz_degree::split_extreme;
 use nz_facets::describe;
 use nz_system::SystemOver;
-use nz_vec::{NoMemory, Num, PlaceLists, Row, Rows, Scalar};
+use nz_vec::{NoMemory, Num, PlaceLists, Rows, Scalar};
 use std::alloc::Global;
 
 /// The outcome of the system with these elements, at the greatest width, or the first of its Hilbert basis
@@ -58,6 +59,7 @@ pub(crate) fn outcome<T: Scalar>(
     Ok(Outcome {
         amb: amb_of(system.width, system.level),
         level: system.level,
+        denominator: shown.denominator,
         modules: kept_where(wants_modules(system), lists.modules),
         hilbert: rows_where(wants_basis(system), lists.hilbert),
         degree_one: shown.degree_one,
@@ -130,7 +132,7 @@ fn wide_shown<T: Scalar>(
 ) -> Result<Shown<i128>, Num>
     requires extreme { IsTrue (wants_description system.now) → Each (HasWidth system.now.system.width) extreme.now }
     requires hilbert { Each (HasWidth system.now.system.width) hilbert.now }
-    ensures degree_one { IfOk result (λ s. AreOnes system.now.goals.degree_one system.now.system.grading hilbert.now s.degree_one) }
+    ensures divided { IfOk result (λ s. AreDivided system.now.goals.degree_one system.now.system.grading hilbert.now s.denominator s.degree_one) }
     ensures parted { IfOk result (λ s. AreParted system.now.goals.rays system.now.system.level extreme.now s.vertices s.rays) }
     ensures described { IfOk result (λ s. AreWhere system.now.goals.hyperplanes (IsDescription system.now.system.width extreme.now) s.support s.equations) }
     ensures cause { IfErr result (λ e. e ≡ Num.Range → IsShownCause T.HALF T.fits system.now extreme.now hilbert.now) }
@@ -146,11 +148,12 @@ fn wide_shown<T: Scalar>(
 }
 
 fn widen_shown<T: Scalar>(alloc: Global, shown: &Shown<T>) -> Result<Shown<i128>, NoMemory>
-    ensures degree_one { IfOk result (λ s. s.degree_one ≡ shown.now.degree_one) }
+    ensures divided { IfOk result (λ s. (s.denominator ≡ option_map T.integer shown.now.denominator) × (s.degree_one ≡ shown.now.degree_one)) }
     ensures parted { IfOk result (λ s. (s.vertices ≡ shown.now.vertices) × (s.rays ≡ shown.now.rays)) }
     ensures described { IfOk result (λ s. (s.support ≡ shown.now.support) × (s.equations ≡ shown.now.equations)) }
 {
     Ok(Shown {
+        denominator: widen_number(shown.denominator),
         degree_one: widen_given(alloc, &shown.degree_one)?,
         vertices: widen_given(alloc, &shown.vertices)?,
         rays: widen_given(alloc, &shown.rays)?,
@@ -162,6 +165,7 @@ fn widen_shown<T: Scalar>(alloc: Global, shown: &Shown<T>) -> Result<Shown<i128>
 // What is shown beside the lists of the irreducible elements.
 #[derive(Drop)]
 struct Shown<T: Scalar> {
+    denominator: Option<T>,
     degree_one: Option<Rows<T>>,
     vertices: Option<Rows<T>>,
     rays: Option<Rows<T>>,
@@ -177,15 +181,15 @@ fn shown_of<T: Scalar>(
 ) -> Result<Shown<T>, Num>
     requires extreme { IsTrue (wants_description system.now) → Each (HasWidth system.now.system.width) extreme.now }
     requires hilbert { Each (HasWidth system.now.system.width) hilbert.now }
-    ensures degree_one { IfOk result (λ s. AreOnes system.now.goals.degree_one system.now.system.grading hilbert.now s.degree_one) }
+    ensures divided { IfOk result (λ s. AreDivided system.now.goals.degree_one system.now.system.grading hilbert.now (option_map T.integer s.denominator) s.degree_one) }
     ensures parted { IfOk result (λ s. AreParted system.now.goals.rays system.now.system.level extreme.now s.vertices s.rays) }
     ensures described { IfOk result (λ s. AreWhere system.now.goals.hyperplanes (IsDescription system.now.system.width extreme.now) s.support s.equations) }
     ensures cause { IfErr result (λ e. e ≡ Num.Range → IsShownCause T.HALF T.fits system.now extreme.now hilbert.now) }
 {
     system.kept();
     let goals = system.goals;
-    let degree_one = match ones_of(alloc, goals.degree_one, &system.grading, hilbert) {
-        Ok(degree_one) => degree_one,
+    let divided = match divided_of(alloc, goals.degree_one, &system.grading, hilbert) {
+        Ok(divided) => divided,
         Err(refusal) => return Err(refusal),
     };
     let parted = match part_extreme(alloc, goals.rays, system.level, extreme) {
@@ -195,36 +199,13 @@ fn shown_of<T: Scalar>(
     let width = system.width as usize;
     match description_of(alloc, goals.hyperplanes, width, extreme) {
         Ok(described) => Ok(Shown {
-            degree_one,
+            denominator: divided.denominator,
+            degree_one: divided.degree_one,
             vertices: parted.vertices,
             rays: parted.rays,
             support: described.support,
             equations: described.equations,
         }),
-        Err(refusal) => Err(refusal),
-    }
-}
-
-// The elements of degree 1, where they are wanted.
-fn ones_of<T: Scalar>(
-    alloc: Global,
-    wanted: bool,
-    grading: &Option<Row<T>>,
-    hilbert: &Rows<T>,
-) -> Result<Option<Rows<T>>, Num>
-    requires { IfSome grading.now (λ g. Each (HasWidth (length g)) hilbert.now) }
-    ensures ones { IfOk result (AreOnes wanted grading.now hilbert.now) }
-    ensures cause { IfErr result (λ e. e ≡ Num.Range → LacksSomeDegree T.fits grading.now hilbert.now) }
-{
-    if !wanted {
-        return Ok(None);
-    }
-    let grading = match grading {
-        Some(grading) => grading,
-        None => return Ok(None),
-    };
-    match degree_one(alloc, grading, hilbert) {
-        Ok(ones) => Ok(Some(ones)),
         Err(refusal) => Err(refusal),
     }
 }

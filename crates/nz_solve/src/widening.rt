@@ -1,5 +1,5 @@
 // Lists of the integers of one type at the greatest width.
-ghost use Rattle.std.specs.Prelude.{◌≡◌, IfOk};
+ghost use Rattle.std.specs.Prelude.{◌≡◌, IfOk, option_map};
 ghost use Rattle.nz_vec.specs.Conditions.{condition_of};
 
 use nz_vec::{Constraint, Constraints, NoMemory, Rows, Scalar};
@@ -27,6 +27,16 @@ pub(crate) fn widen_given<T: Scalar>(
     match given {
         Some(rows) => Ok(Some(widen_rows(alloc, rows)?)),
         None => Ok(None),
+    }
+}
+
+/// The same number, where it is given.
+pub(crate) fn widen_number<T: Scalar>(given: Option<T>) -> Option<i128>
+    ensures { result ≡ option_map T.integer given }
+{
+    match given {
+        Some(number) => Some(number.to_i128()),
+        None => None,
     }
 }
 
