@@ -6,3 +6,7 @@ mod OrthantFiles
 mod Lowering
 mod FarFacets
 mod Reaching
+mod PlaneForms
+mod NarrowCone
+mod NarrowSums
+mod NarrowReach

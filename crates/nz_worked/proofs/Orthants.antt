@@ -29,7 +29,7 @@ pub record IsOrthant (w : ℕ) (Member : Vector → Type 0) : Type 0 where
   pub nonneg : (x : Vector) → Member x → NonNegative x
 
 -- what times k is less than k is 0
-below_one : (k t : ℤ) → pos 1 ≤ℤ k → pos 0 ≤ℤ (k *ℤ t) → (k *ℤ t) <ℤ k → t ≡ pos 0
+pub below_one : (k t : ℤ) → pos 1 ≤ℤ k → pos 0 ≤ℤ (k *ℤ t) → (k *ℤ t) <ℤ k → t ≡ pos 0
 below_one k t h low high =
     let a = nonneg_of_mul k t h low in
     let d = mul-sub k (pos 1) t in

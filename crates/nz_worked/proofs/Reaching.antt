@@ -72,6 +72,6 @@ lower_form_is_normal = record {
   );
 }
 
--- the value of the form at the lower one is the difference of two numbers whose sum is above 2^30
+-- the products of the form and the lower one have sizes whose sum is above 2^30
 pub narrow_above : HasOwnAbove (system_of narrow_file) (pos (2 ^ 30))
 narrow_above = of_ambient (inr (record { form = lower_form; vector = lower; is_form = of_generators {G = narrow} refl lower_form_is_normal; named = generator {G = narrow} refl (0, omega arith, refl); large = omega (arith, ints) }))

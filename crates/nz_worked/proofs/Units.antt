@@ -96,7 +96,7 @@ pub record SplitsOff (w : ℕ) (x : Vector) : Type 0 where
   pub nonneg : NonNegative rest
   pub same : plus unit rest ≡ x
 
-one_less : (a : ℤ) → pos 0 ≤ℤ a → (a ≡ pos 0) ⊎ (pos 0 ≤ℤ (a -ℤ pos 1))
+pub one_less : (a : ℤ) → pos 0 ≤ℤ a → (a ≡ pos 0) ⊎ (pos 0 ≤ℤ (a -ℤ pos 1))
 one_less (pos zero) h = inl refl
 one_less (pos (suc n)) h = inr (omega (arith, ints))
 one_less (negsuc n) h = absurd (omega (arith, ints, h))

@@ -36,9 +36,9 @@ IsReachAboveInNone s n = (¬ IsPrimalReachAbove s n) × (¬ IsDualReachAbove s n
 abbrev pub ReachOfQuadrant : Type 0
 ReachOfQuadrant = IsReachAboveInBoth (system_of (orthant_file 2)) (pos 0) × IsReachAboveInNone (system_of (orthant_file 2)) (pos 1)
 
--- the reach of the narrow cone is above 2^30 in both modes
+-- the reach of the narrow cone is above 2^30 in both modes, and above 2^62 in neither: past the bound of the run with 64 bits, and within that of the run with 128
 abbrev pub ReachOfNarrow : Type 0
-ReachOfNarrow = IsReachAboveInBoth (system_of narrow_file) (pos (2 ^ 30))
+ReachOfNarrow = IsReachAboveInBoth (system_of narrow_file) (pos (2 ^ 30)) × IsReachAboveInNone (system_of narrow_file) (pos (2 ^ 62))
 
 -- the reach of the cone with a far facet is above 2^62 in both modes
 abbrev pub ReachOfFar : Type 0

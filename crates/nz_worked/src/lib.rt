@@ -13,7 +13,7 @@ pub fn crowds_are_known()
     ensures wedge { CrowdOfWedge }
 {}
 
-/// The reach of `amb_space 2` alone is 1; that of the cone of (1000000007, 1) and (1000000006, 1) is above 2^30; that of three vectors with entries of at most 10^18 is above 2^62: each in both modes.
+/// The reach of `amb_space 2` alone is 1; that of the cone of (1000000007, 1) and (1000000006, 1) lies between 2^30 and 2^62; that of three vectors with entries of at most 10^18 is above 2^62: each in both modes.
 pub fn reaches_are_known()
     ensures quadrant { ReachOfQuadrant }
     ensures narrow { ReachOfNarrow }
