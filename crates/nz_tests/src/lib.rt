@@ -6,6 +6,8 @@
 #![tactic(auto)]
 
 #[cfg(test)]
+mod broken_tests;
+#[cfg(test)]
 mod make_tests;
 #[cfg(test)]
 mod mode_tests;
@@ -15,3 +17,5 @@ mod primal_tests;
 mod run_tests;
 #[cfg(test)]
 mod solve_tests;
+#[cfg(test)]
+mod stop_tests;

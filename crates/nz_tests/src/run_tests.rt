@@ -8,12 +8,13 @@ use nz_watch::{MemWatch, Watch};
 use std::alloc::Global;
 use std::test::Fail;
 
-const FIRST: &[u8] = b"amb_space 2\ncongruences 1\n1 1 2\n";
+pub const FIRST: &[u8] = b"amb_space 2\ncongruences 1\n1 1 2\n";
 
-const FIRST_TEXT: &[u8] = b"amb_space 2\nhomogeneous\n\n3 Hilbert basis elements:\n0 2\n1 1\n2 0\n";
+pub const FIRST_TEXT: &[u8] =
+    b"amb_space 2\nhomogeneous\n\n3 Hilbert basis elements:\n0 2\n1 1\n2 0\n";
 
-// The input file of a project, where there is one.
-fn files_of(alloc: Global, input: Option<&[u8]>) -> Result<Vec<(String, Bytes)>, Fail>
+/// The input file of a project, where there is one.
+pub fn files_of(alloc: Global, input: Option<&[u8]>) -> Result<Vec<(String, Bytes)>, Fail>
     ensures { IfOk result (λ files. length files.items ≤ 1) }
 {
     let mut files = Vec::new(alloc);
@@ -28,8 +29,8 @@ fn files_of(alloc: Global, input: Option<&[u8]>) -> Result<Vec<(String, Bytes)>,
     Ok(files)
 }
 
-// The number of a call that is to fail, where one is.
-fn failing(alloc: Global, call: u64) -> Result<Vec<u64>, Fail> {
+/// The number of a call that is to fail, where one is.
+pub fn failing(alloc: Global, call: u64) -> Result<Vec<u64>, Fail> {
     let mut calls = Vec::new(alloc);
     if call > 0 {
         calls.push(call)?;
@@ -37,8 +38,8 @@ fn failing(alloc: Global, call: u64) -> Result<Vec<u64>, Fail> {
     Ok(calls)
 }
 
-// The number of the call that asks to stop, after so many that do not.
-fn stop_at(passed: Option<u8>) -> Option<u64>
+/// The number of the call that asks to stop, after so many that do not.
+pub fn stop_at(passed: Option<u8>) -> Option<u64>
     ensures { IfSome result (λ number. 1 ≤ number) }
 {
     match passed {
@@ -67,8 +68,8 @@ pub struct Ran {
     pub code: u8,
 }
 
-// The words stand behind one another, with a space between two.
-fn words_of(alloc: Global, line: &str) -> Result<Vec<String>, Fail> {
+/// The words stand behind one another, with a space between two.
+pub fn words_of(alloc: Global, line: &str) -> Result<Vec<String>, Fail> {
     let mut words = Vec::new(alloc);
     for part in line.split(' ') {
         words.push(String::from_str(alloc, part)?)?;
