@@ -10,14 +10,13 @@ use Rattle.nz_spec.specs.Monoids.{IsIrreducible}
 use Rattle.nz_spec.specs.Forms.{IsSupportForm, AreSupportForms, IsEquationAt, IsOtherColumn, AreEquations}
 use Rattle.nz_spec.proofs.VectorLaws.{dot-scaled, zero_or_not}
 use Rattle.nz_spec.proofs.PrimitiveLaws.{one_of_divisor}
-use Rattle.nz_spec.proofs.SumLaws.{span_each}
 use Rattle.nz_spec.proofs.LinearLaws.{HasRank-unique}
 use Rattle.nz_spec.proofs.CoverExamples.{one}
 use Rattle.nz_spec.proofs.Examples.{two}
 use Rattle.nz_measures.proofs.BoxesOfTwo.{box_of_two, either}
 use Rattle.nz_worked.proofs.Units.{one_less}
 use Rattle.nz_worked.proofs.Orthants.{below_one}
-use Rattle.nz_worked.proofs.Reaching.{lower, upper, narrow, lower_form, upper_form, narrow_free, narrow_no_other}
+use Rattle.nz_worked.proofs.Reaching.{lower, upper, narrow, lower_form, upper_form, narrow_free, narrow_spans, narrow_no_other}
 
 -- one of the two
 abbrev pub IsSide : Vector → Type 0
@@ -102,13 +101,10 @@ box_zero vs x l of free h =
 abbrev pub narrow_rows : List Vector
 narrow_rows = upper_form ∷ lower_form ∷ []
 
-spans : (fs : List ℤ) (x : Vector) → length fs ≡ 2 → combination 2 fs narrow ≡ scaled (pos 1) x → IsInSpan 2 narrow x
-spans fs x l e = record { multiple = pos 1; factors = fs; positive = omega (arith, ints); one_each = l; each = span_each fs; same = e }
-
 side_spans : (x : Vector) → Contains narrow x → IsInSpan 2 narrow x
 side_spans x c = elim (side_of x c) [
-  | inl e ↦ subst (IsInSpan 2 narrow) (sym e) (spans (pos 1 ∷ pos 0 ∷ []) lower refl refl)
-  | inr e ↦ subst (IsInSpan 2 narrow) (sym e) (spans (pos 0 ∷ pos 1 ∷ []) upper refl refl)
+  | inl e ↦ subst (IsInSpan 2 narrow) (sym e) (narrow_spans (pos 1 ∷ pos 0 ∷ []) lower refl refl)
+  | inr e ↦ subst (IsInSpan 2 narrow) (sym e) (narrow_spans (pos 0 ∷ pos 1 ∷ []) upper refl refl)
 ]
 
 narrow_rank : HasRank 2 (Contains narrow) 2

@@ -15,12 +15,12 @@ use Rattle.nz_spec.proofs.ListLaws.{contains_there, Each-weaker, Each-contains, 
 use Rattle.nz_spec.proofs.LinearLaws.{HasRank-unique}
 use Rattle.nz_linear.proofs.Lists.{zip_to_right}
 use Rattle.nz_order.proofs.BoxLaws.{entries_of_forms, forms_of_entries}
-use Rattle.nz_vec.proofs.UnitLemmas.{units_all}
+use Rattle.nz_vec.proofs.UnitLemmas.{length-unit_vectors, units_all}
 use Rattle.nz_measures.specs.Stages.{AreFirstRays, IsLater}
 use Rattle.nz_measures.specs.Crowds.{IsPrimalCrowdAbove, of_line, of_held, HaveStagesAbove, IsDualCrowdAbove, dual_line, of_stages, of_first, of_first_stage, of_stage, of_reversed}
 use Rattle.nz_worked.proofs.Units.{IsUnit, each_unit, unit_listed, unit_at_self}
 use Rattle.nz_worked.proofs.UnitLists.{units_different, zero_different, units_separate, separate_units, rising_units, each_rising, rising_listed, rising_in_order}
-use Rattle.nz_worked.proofs.Orthants.{IsOrthant, orthant_positive, irreducible_unit, unit_extreme, held_of_units, units_held, length_units, whole_rank}
+use Rattle.nz_worked.proofs.Orthants.{IsOrthant, orthant_positive, irreducible_unit, unit_extreme, held_of_units, units_held, whole_rank}
 
 -- the vectors with w entries of at least 0
 abbrev pub orthant : ℕ → System
@@ -33,12 +33,12 @@ held_list w = zero_vector w ∷ unit_vectors w
 no_more : (w m : ℕ) (P : Vector → Type 0) → ((x : Vector) → P x → Contains (held_list w) x) → MoreThan m P → m < w + 1
 no_more w m P f k =
     let few = different_within k.witnesses (held_list w) k.different (Each-from_contains (Contains (held_list w)) k.witnesses (λ x c. f x (Each-contains P k.witnesses x k.only c))) in
-    let l = length_units w in
+    let l = length-unit_vectors w in
     let n = k.more in
     omega (arith, few, l, n)
 
 all_held : (w m : ℕ) (P : Vector → Type 0) → Each P (held_list w) → m < w + 1 → MoreThan m P
-all_held w m P only l = record { witnesses = held_list w; different = (zero_different w, units_different w); only = only; more = (let n = length_units w in omega (arith, l, n)) }
+all_held w m P only l = record { witnesses = held_list w; different = (zero_different w, units_different w); only = only; more = (let n = length-unit_vectors w in omega (arith, l, n)) }
 
 -- ---- primal mode
 members : (w : ℕ) → IsOrthant w (IsMember (orthant w))
@@ -102,7 +102,7 @@ none_later w ordered F earlier last a l =
     let m = ap length (sym l.whole ∙ ordered_units w ordered F a) in
     let k = length-append earlier (last ∷ l.later) in
     let e = l.enough in
-    let n = length_units w in
+    let n = length-unit_vectors w in
     omega (arith, m, k, e, n)
 
 stages_below : (w m : ℕ) → HaveStagesAbove m w (Whole w) w (unit_vectors w) → m < w + 1

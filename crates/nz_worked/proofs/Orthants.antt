@@ -1,7 +1,6 @@
 -- The vectors with entries of at least 0: the unit vectors are their irreducible elements and extreme generators, and no other vector but 0 is in a box of these.
 use Rattle.std.proofs.Common.{◌≡◌, ◌⊎◌, inl, inr, ℕ, zero, suc, List, [], ◌∷◌, length, ℤ, pos, negsuc, ◌+ℤ◌, ◌-ℤ◌, ◌*ℤ◌, ◌≤ℤ◌, ◌<ℤ◌, Contains, subst, ap, sym, refl, ◌∙◌, arith}
 use Rattle.std.proofs.lemmas.Int.{ints}
-use Rattle.std.proofs.lemmas.List.{length-map}
 use Rattle.std.specs.List.{AllByRecursion as Each}
 use Rattle.nz_spec.specs.Vectors.{Vector, dot, plus, scaled, opposite, combination, zero_vector, unit_vectors, HasWidth, IsZero}
 use Rattle.nz_spec.specs.Sums.{IsInBox, IsIndependent, HasRank}
@@ -116,11 +115,6 @@ module _ (w : ℕ) (Member : Vector → Type 0) (o : IsOrthant w Member) where
 
   pub units_held : (X : List Vector) → ((u : Vector) → IsUnit w u → Contains X u) → Each (IsListedOrBoxMember w Member X) (zero_vector w ∷ unit_vectors w)
   units_held X c = (zero_held X, Each-weaker (IsUnit w) (IsListedOrBoxMember w Member X) (λ u i. inl (c u i)) (unit_vectors w) (each_unit w))
-
--- ---- the list of the unit vectors
-pub length_units : (w : ℕ) → length (unit_vectors w) ≡ w
-length_units zero = refl
-length_units (suc w) = ap suc (length-map (unit_vectors w) (λ u. pos 0 ∷ u) ∙ length_units w)
 
 -- all vectors of a width have it as their rank
 pub whole_rank : (w : ℕ) → HasRank w (HasWidth w) w

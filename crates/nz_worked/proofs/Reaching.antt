@@ -44,12 +44,12 @@ narrow_free fs l z = let t = two fs l in subst IsZero (sym t.2) (both t.0 t.1 (s
     both : (a b : ℤ) → IsZero (combination 2 (a ∷ b ∷ []) narrow) → IsZero (a ∷ b ∷ [])
     both a b z = let p = z.0 in let q = z.1.0 in (omega (arith, ints, p, q), (omega (arith, ints, p, q), tt))
 
-spans : (fs : List ℤ) (x : Vector) → length fs ≡ 2 → combination 2 fs narrow ≡ scaled (pos 1) x → IsInSpan 2 narrow x
-spans fs x l e = record { multiple = pos 1; factors = fs; positive = omega (arith, ints); one_each = l; each = span_each fs; same = e }
+pub narrow_spans : (fs : List ℤ) (x : Vector) → length fs ≡ 2 → combination 2 fs narrow ≡ scaled (pos 1) x → IsInSpan 2 narrow x
+narrow_spans fs x l e = record { multiple = pos 1; factors = fs; positive = omega (arith, ints); one_each = l; each = span_each fs; same = e }
 
 pub narrow_no_other : (j : ℕ) → IsOtherColumn 2 narrow j → ⊥
-narrow_no_other zero o = o.not_key (lower, spans (pos 1 ∷ pos 0 ∷ []) lower refl refl, λ e. omega (arith, ints, e))
-narrow_no_other (suc zero) o = o.not_key (pos 0 ∷ pos 1 ∷ [], spans (negsuc 1000000005 ∷ pos 1000000007 ∷ []) (pos 0 ∷ pos 1 ∷ []) refl refl, (refl, λ e. omega (arith, ints, e)))
+narrow_no_other zero o = o.not_key (lower, narrow_spans (pos 1 ∷ pos 0 ∷ []) lower refl refl, λ e. omega (arith, ints, e))
+narrow_no_other (suc zero) o = o.not_key (pos 0 ∷ pos 1 ∷ [], narrow_spans (negsuc 1000000005 ∷ pos 1000000007 ∷ []) (pos 0 ∷ pos 1 ∷ []) refl refl, (refl, λ e. omega (arith, ints, e)))
 narrow_no_other (suc (suc j)) o = let l = o.within in omega (arith, l)
 
 lower_form_is_normal : IsNormalForm 2 narrow lower_form

@@ -6,11 +6,11 @@ use Rattle.std.specs.List.{AllByRecursion as Each}
 use Rattle.nz_spec.specs.Vectors.{Vector, dot, zero_vector, unit_vectors, HasWidth}
 use Rattle.nz_spec.specs.Order.{Pairwise, IsLexBefore}
 use Rattle.nz_spec.specs.Stages.{IsFreshRow, Separates, none, fresh, other}
-use Rattle.nz_spec.proofs.ListLaws.{contains_here, contains_there, contains_cases, contains_none, Each-weaker}
+use Rattle.nz_spec.proofs.ListLaws.{contains_here, Each-weaker}
 use Rattle.nz_spec.proofs.VectorLaws.{IsZero-zero_vector}
 use Rattle.nz_linear.proofs.Lists.{each_of_map, each_append}
 use Rattle.nz_order.proofs.SortLaws.{Pairwise-append}
-use Rattle.nz_worked.proofs.Units.{IsUnit, here, there, each_unit, unit_wide, unit_nonzero, unit_at_self, unit_apart}
+use Rattle.nz_worked.proofs.Units.{contains_mapped, IsUnit, here, there, each_unit, unit_wide, unit_nonzero, unit_at_self, unit_apart}
 
 -- ---- all are different
 pairwise_shifted : (R : Vector → Vector → Type 0) (us : List Vector) → ((u v : Vector) → R u v → R (pos 0 ∷ u) (pos 0 ∷ v)) → Pairwise R us → Pairwise R (map (λ u. pos 0 ∷ u) us)
@@ -82,17 +82,10 @@ pub each_rising : (w : ℕ) → Each (IsUnit w) (rising_units w)
 each_rising zero = tt
 each_rising (suc w) = each_append (IsUnit (suc w)) (map (λ u. pos 0 ∷ u) (rising_units w)) ((pos 1 ∷ zero_vector w) ∷ []) (each_of_map (λ (u : Vector). pos 0 ∷ u) (IsUnit (suc w)) (rising_units w) (Each-weaker (IsUnit w) (λ u. IsUnit (suc w) (pos 0 ∷ u)) (λ u i. there i) (rising_units w) (each_rising w))) (here, tt)
 
-contains_shifted : (us : List Vector) (u : Vector) → Contains us u → Contains (map (λ v. pos 0 ∷ v) us) (pos 0 ∷ u)
-contains_shifted [] u c = absurd (contains_none u c)
-contains_shifted (v ∷ us) u c = elim (contains_cases v us u c) [
-  | inl e ↦ subst (λ (t : Vector). Contains (map (λ v. pos 0 ∷ v) (v ∷ us)) (pos 0 ∷ t)) e (contains_here (pos 0 ∷ v) (map (λ v. pos 0 ∷ v) us))
-  | inr k ↦ contains_there (pos 0 ∷ v) (pos 0 ∷ u) (map (λ v. pos 0 ∷ v) us) (contains_shifted us u k)
-]
-
 pub rising_listed : (w : ℕ) (u : Vector) → IsUnit w u → Contains (rising_units w) u
 rising_listed zero u i = elim i [ ]
 rising_listed (suc w) u here = Contains-append_right (map (λ u. pos 0 ∷ u) (rising_units w)) ((pos 1 ∷ zero_vector w) ∷ []) (pos 1 ∷ zero_vector w) (contains_here (pos 1 ∷ zero_vector w) [])
-rising_listed (suc w) u (there {u = v} i) = Contains-append_left (map (λ u. pos 0 ∷ u) (rising_units w)) ((pos 1 ∷ zero_vector w) ∷ []) (pos 0 ∷ v) (contains_shifted (rising_units w) v (rising_listed w v i))
+rising_listed (suc w) u (there {u = v} i) = Contains-append_left (map (λ u. pos 0 ∷ u) (rising_units w)) ((pos 1 ∷ zero_vector w) ∷ []) (pos 0 ∷ v) (contains_mapped (rising_units w) v (rising_listed w v i))
 
 pub rising_in_order : (w : ℕ) → Pairwise IsLexBefore (rising_units w)
 rising_in_order zero = tt

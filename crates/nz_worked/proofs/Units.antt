@@ -24,7 +24,7 @@ each_unit (suc w) = (here, each_of_map (λ (u : Vector). pos 0 ∷ u) (IsUnit (s
 pub unit_of : (w : ℕ) (u : Vector) → Contains (unit_vectors w) u → IsUnit w u
 unit_of w u c = Each-contains (IsUnit w) (unit_vectors w) u (each_unit w) c
 
-contains_mapped : (us : List Vector) (u : Vector) → Contains us u → Contains (map (λ v. pos 0 ∷ v) us) (pos 0 ∷ u)
+pub contains_mapped : (us : List Vector) (u : Vector) → Contains us u → Contains (map (λ v. pos 0 ∷ v) us) (pos 0 ∷ u)
 contains_mapped [] u (k, h, e) = absurd (omega (arith, h))
 contains_mapped (v ∷ us) u (zero, h, e) = (zero, omega arith, ap (λ t. pos 0 ∷ t) e)
 contains_mapped (v ∷ us) u (suc k, h, e) = contains_there (pos 0 ∷ v) (pos 0 ∷ u) _ (contains_mapped us u (k, omega (arith, h), e))
