@@ -240,11 +240,12 @@ pub fn run<F: Folder, S: Sink>(
     watch: &mut Box<dyn Watch>,
 ) -> Status
     // What the status says of the words, the input, the files and the watch. At Done the stored text has exactly what the input's file
-    // and the words ask: the module generators, the Hilbert basis, its elements of degree 1, the vertices, the extreme rays, the support
-    // hyperplanes and equations, a cover, and each asked vector with its parts or the first constraint that it breaks; and the watch was
-    // told all stages of the file's system in the mode of file and words. A file with a line, with an element of the Hilbert basis whose
-    // degree is 0 or less, or with more irreducible elements than the limit never gives Done. Each refusal has its cause, and leaves
-    // every file as it was; only WriteFault leaves what stands under the output's name open.
+    // and the words ask: what degrees are divided by, where a grading is given, the module generators, the Hilbert basis, its elements of
+    // degree 1, the vertices, the extreme rays, the support hyperplanes and equations, a cover, and each asked vector with its parts or
+    // the first constraint that it breaks; and the watch was told all stages of the file's system in the mode of file and words. A file
+    // with a line, with an element of the Hilbert basis whose degree is 0 or less, or with more irreducible elements than the limit never
+    // gives Done. Each refusal has its cause, and leaves every file as it was; only WriteFault leaves what stands under the output's name
+    // open.
     ensures outcome { BothTold (F.files folder.old) (F.files folder.new) (Explains (bytes_of_each words.now) (seen watch.old) (seen watch.new) (F.faults folder.old) (F.faults folder.new) result) }
 
     // Words that order nothing are refused, and no others.

@@ -32,7 +32,7 @@ const EVEN_CORNERS: &[u8] =
     b"amb_space 9\nequations 7\n1 1 1 -1 -1 -1 0 0 0\n1 1 1 0 0 0 -1 -1 -1\n0 1 1 -1 0 0 -1 0 0\n1 0 1 0 -1 0 0 -1 0\n1 1 0 0 0 -1 0 0 -1\n0 1 1 0 -1 0 0 0 -1\n1 1 0 0 -1 0 -1 0 0\ncongruences 4\n1 0 0 0 0 0 0 0 0 2\n0 0 1 0 0 0 0 0 0 2\n0 0 0 0 0 0 1 0 0 2\n0 0 0 0 0 0 0 0 1 2\ngrading\n1 1 1 0 0 0 0 0 0\n";
 
 const EVEN_CORNERS_TEXT: &[u8] =
-    b"amb_space 9\nhomogeneous\n\n9 Hilbert basis elements:\n0 4 2 4 2 0 2 0 4\n2 0 4 4 2 0 0 4 2\n2 2 2 2 2 2 2 2 2\n2 4 0 0 2 4 4 0 2\n4 0 2 0 2 4 2 4 0\n2 3 4 5 3 1 2 3 4\n2 5 2 3 3 3 4 1 4\n4 1 4 3 3 3 2 5 2\n4 3 2 1 3 5 4 3 2\n";
+    b"amb_space 9\nhomogeneous\ngrading denominator 3\n\n9 Hilbert basis elements:\n0 4 2 4 2 0 2 0 4\n2 0 4 4 2 0 0 4 2\n2 2 2 2 2 2 2 2 2\n2 4 0 0 2 4 4 0 2\n4 0 2 0 2 4 2 4 0\n2 3 4 5 3 1 2 3 4\n2 5 2 3 3 3 4 1 4\n4 1 4 3 3 3 2 5 2\n4 3 2 1 3 5 4 3 2\n";
 
 // Whether a run with these words, without a stop, prints the line and stores the text.
 fn ends_so(
@@ -75,7 +75,19 @@ fn one_text(rt: HostRuntime) -> Result<(), Fail> {
         ),
         (
             b"amb_space 2\ncone 2\n1 3\n2 1\ngrading\n0 1\nHilbertBasis\nDeg1Elements\n".as_slice(),
-            b"amb_space 2\nhomogeneous\n\n4 Hilbert basis elements:\n1 1\n2 1\n1 2\n1 3\n\n2 degree 1 elements:\n1 1\n2 1\n".as_slice(),
+            b"amb_space 2\nhomogeneous\ngrading denominator 1\n\n4 Hilbert basis elements:\n1 1\n2 1\n1 2\n1 3\n\n2 degree 1 elements:\n1 1\n2 1\n".as_slice(),
+        ),
+        (
+            b"amb_space 2\ncongruences 1\n1 1 2\ngrading\n1 1\nHilbertBasis\nDeg1Elements\n".as_slice(),
+            b"amb_space 2\nhomogeneous\ngrading denominator 2\n\n3 Hilbert basis elements:\n0 2\n1 1\n2 0\n\n3 degree 1 elements:\n0 2\n1 1\n2 0\n".as_slice(),
+        ),
+        (
+            b"amb_space 2\nequations 1\n1 1\ngrading\n1 1\n".as_slice(),
+            b"amb_space 2\nhomogeneous\ngrading denominator 1\n\n0 Hilbert basis elements:\n".as_slice(),
+        ),
+        (
+            b"amb_space 1\ninhom_inequalities 1\n1 0\ninhom_congruences 1\n1 1 2\ngrading\n1\nModuleGenerators\n".as_slice(),
+            b"amb_space 1\ninhomogeneous\ngrading denominator 2\n\n1 module generators:\n1 1\n".as_slice(),
         ),
         (
             b"amb_space 2\ncone 2\n1 3\n2 1\nask 3\n3 4\n0 0\n1 4\n".as_slice(),

@@ -3,7 +3,7 @@ ghost use Rattle.std.specs.Prelude.{◌≡◌, IfOk, length};
 ghost use Rattle.std.specs.List.{AllByRecursion as Each};
 ghost use Rattle.nz_spec.specs.Vectors.{HasWidth};
 
-use nz_degree::{Positivity, check, degree_one, sort};
+use nz_degree::{Positivity, check, degree_one, denominator, sort};
 use nz_vec::{Row, Rows, Scalar};
 use std::alloc::Global;
 use std::test::Fail;
@@ -83,17 +83,22 @@ fn checks<T: Scalar>(alloc: Global, entries: [i64; 2], wanted: Positivity) -> Re
     Ok(check(&grading, &list) == Ok(wanted))
 }
 
-fn picks<T: Scalar>(alloc: Global) -> Result<bool, Fail> {
+// Whether the degrees by this grading have this denominator, and the rows of which it is the degree are picked.
+fn picks<T: Scalar>(alloc: Global, entries: [i64; 2], divisor: i128) -> Result<bool, Fail> {
     let list = match rows_of::<T>(alloc, GIVEN) {
         Ok(list) => list,
         Err(fail) => return Err(fail),
     };
-    let grading = match row::<T>(alloc, [0, 1]) {
+    let grading = match row::<T>(alloc, entries) {
         Ok(grading) => grading,
         Err(fail) => return Err(fail),
     };
-    match degree_one(alloc, &grading, &list) {
-        Ok(one) => Ok(lists(&one, &[[2, 1], [1, 1]])),
+    let found = match denominator(&grading, &list) {
+        Ok(found) => found,
+        Err(_) => return Ok(false),
+    };
+    match degree_one(alloc, &grading, found, &list) {
+        Ok(one) => Ok(found.to_i128() == divisor && lists(&one, &[[2, 1], [1, 1]])),
         Err(_) => Ok(false),
     }
 }
@@ -124,7 +129,7 @@ fn names_the_fault<T: Scalar>(alloc: Global) -> Result<bool, Fail> {
 fn grades<T: Scalar>(alloc: Global) -> Result<bool, Fail> {
     let is_positive = checks::<T>(alloc, [0, 1], Positivity::Positive)?;
     let is_named = checks::<T>(alloc, [2, -1], Positivity::NotPositive(2))?;
-    let is_picked = picks::<T>(alloc)?;
+    let is_picked = picks::<T>(alloc, [0, 1], 1)? && picks::<T>(alloc, [0, 2], 2)?;
     let is_sorted = sorts::<T>(alloc)?;
     let is_first = names_the_fault::<T>(alloc)?;
     Ok(is_positive && is_named && is_picked && is_sorted && is_first)

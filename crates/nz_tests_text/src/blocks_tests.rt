@@ -11,31 +11,36 @@ use std::alloc::Global;
 use std::test::Fail;
 
 // The even members of the plane, the cone of 1 3 and 2 1 with all its blocks, the numbers of at least 1 with what is asked
-// of them, that cone with a grading, and the odd numbers with what is asked of them.
-const TEXTS: [&[u8]; 5] = [
+// of them, that cone with a grading, the odd numbers with what is asked of them, and those members by half their sum.
+const TEXTS: [&[u8]; 6] = [
     b"amb_space 2\nhomogeneous\n\n3 Hilbert basis elements:\n0 2\n1 1\n2 0\n",
     b"amb_space 2\nhomogeneous\n\n4 Hilbert basis elements:\n1 1\n1 2\n1 3\n2 1\n\n2 extreme rays:\n1 3\n2 1\n\n2 support hyperplanes:\n-1  2\n 3 -1\n\n0 equations:\n\n2 extreme generators:\n1 3\n2 1\n\n1 simplices:\n1 2\n",
     b"amb_space 1\ninhomogeneous\n\n1 module generators:\n1 1\n\n1 Hilbert basis elements of recession monoid:\n1 0\n\n2 asked vectors:\n3: in 2*h1 m1\n0: out 1 -1 >= 0 gives -1\n",
-    b"amb_space 2\nhomogeneous\n\n4 Hilbert basis elements:\n1 1\n2 1\n1 2\n1 3\n\n2 degree 1 elements:\n1 1\n2 1\n",
+    b"amb_space 2\nhomogeneous\ngrading denominator 1\n\n4 Hilbert basis elements:\n1 1\n2 1\n1 2\n1 3\n\n2 degree 1 elements:\n1 1\n2 1\n",
     b"amb_space 1\ninhomogeneous\n\n1 module generators:\n1 1\n\n1 Hilbert basis elements of recession monoid:\n2 0\n\n1 vertices of polyhedron:\n1 1\n\n1 extreme rays of recession cone:\n2 0\n\n2 asked vectors:\n3: in 1*h1 m1\n2: out 1 -1 = 0 mod 2 gives 1\n",
+    b"amb_space 2\nhomogeneous\ngrading denominator 2\n",
 ];
 
 // No texts of an outcome: the last line is missing, a row stands twice, two spaces stand for one, the end of the last line is
 // missing, a heading stands twice, blocks stand in another order, numbers are written in other ways, a number has more than
-// 128 bits, a place is no generator's, and an answer names no module generator.
-const BAD_TEXTS: [&[u8]; 12] = [
+// 128 bits, a place is no generator's, an answer names no module generator, the denominator is 0, is missing before elements
+// of degree 1, and is written in another way.
+const BAD_TEXTS: [&[u8]; 15] = [
     b"amb_space 2\nhomogeneous\n\n3 Hilbert basis elements:\n0 2\n1 1\n",
     b"amb_space 2\nhomogeneous\n\n3 Hilbert basis elements:\n0 2\n1 1\n2 0\n2 0\n",
     b"amb_space 2\nhomogeneous\n\n3 Hilbert basis elements:\n0  2\n1 1\n2 0\n",
     b"amb_space 2\nhomogeneous\n\n3 Hilbert basis elements:\n0 2\n1 1\n2 0",
     b"amb_space 2\nhomogeneous\n\n1 Hilbert basis elements:\n0 2\n\n1 Hilbert basis elements:\n0 2\n",
-    b"amb_space 2\nhomogeneous\n\n1 degree 1 elements:\n1 1\n\n1 Hilbert basis elements:\n1 1\n",
+    b"amb_space 2\nhomogeneous\ngrading denominator 2\n\n1 degree 1 elements:\n1 1\n\n1 Hilbert basis elements:\n1 1\n",
     b"amb_space 2\nhomogeneous\n\n1 Hilbert basis elements:\n+1 1\n",
     b"amb_space 2\nhomogeneous\n\n1 Hilbert basis elements:\n-0 1\n",
     b"amb_space 2\nhomogeneous\n\n1 Hilbert basis elements:\n01 1\n",
     b"amb_space 1\nhomogeneous\n\n1 Hilbert basis elements:\n170141183460469231731687303715884105728\n",
     b"amb_space 2\nhomogeneous\n\n2 extreme generators:\n1 3\n2 1\n\n1 simplices:\n1 3\n",
     b"amb_space 1\ninhomogeneous\n\n1 module generators:\n1 1\n\n1 Hilbert basis elements of recession monoid:\n1 0\n\n1 asked vectors:\n3: in 2*h1 m2\n",
+    b"amb_space 2\nhomogeneous\ngrading denominator 0\n\n1 Hilbert basis elements:\n1 1\n",
+    b"amb_space 2\nhomogeneous\n\n1 degree 1 elements:\n1 1\n",
+    b"amb_space 2\nhomogeneous\ngrading denominator 02\n\n1 degree 1 elements:\n1 1\n",
 ];
 
 fn one(alloc: Global, first: i128) -> Result<Row<i128>, Fail>
@@ -97,6 +102,7 @@ fn even(alloc: Global) -> Result<Outcome, Fail> {
     Ok(Outcome {
         amb: 2,
         level: false,
+        denominator: None,
         modules: None,
         hilbert: Some(hilbert),
         degree_one: None,
@@ -120,6 +126,7 @@ fn cone(alloc: Global) -> Result<Outcome, Fail> {
     Ok(Outcome {
         amb: 2,
         level: false,
+        denominator: None,
         modules: None,
         hilbert: Some(hilbert),
         degree_one: None,
@@ -189,6 +196,7 @@ fn ray(alloc: Global) -> Result<Outcome, Fail> {
     Ok(Outcome {
         amb: 1,
         level: true,
+        denominator: None,
         modules: Some(modules),
         hilbert: Some(hilbert),
         degree_one: None,
@@ -208,6 +216,7 @@ fn graded(alloc: Global) -> Result<Outcome, Fail> {
     Ok(Outcome {
         amb: 2,
         level: false,
+        denominator: Some(1),
         modules: None,
         hilbert: Some(hilbert),
         degree_one: Some(degree_one),
@@ -279,6 +288,7 @@ fn odd(alloc: Global) -> Result<Outcome, Fail> {
     Ok(Outcome {
         amb: 1,
         level: true,
+        denominator: None,
         modules: Some(modules),
         hilbert: Some(hilbert),
         degree_one: None,
@@ -292,13 +302,32 @@ fn odd(alloc: Global) -> Result<Outcome, Fail> {
     })
 }
 
+fn halved() -> Outcome {
+    Outcome {
+        amb: 2,
+        level: false,
+        denominator: Some(2),
+        modules: None,
+        hilbert: None,
+        degree_one: None,
+        vertices: None,
+        rays: None,
+        support: None,
+        equations: None,
+        generators: None,
+        simplices: None,
+        asked: None,
+    }
+}
+
 fn outcome_of(alloc: Global, number: usize) -> Result<Outcome, Fail> {
     match number {
         0 => even(alloc),
         1 => cone(alloc),
         2 => ray(alloc),
         3 => graded(alloc),
-        _ => odd(alloc),
+        4 => odd(alloc),
+        _ => Ok(halved()),
     }
 }
 
