@@ -150,7 +150,8 @@ def window_of(vectors):
 def draw_set(picture, items):
     """The yellow part, the axes, and each whole point: black in the set, gray outside."""
     (left, bottom), (right, top) = picture.low, picture.high
-    forms, corners = forms_of(items), [[left, bottom], [right, bottom], [right, top], [left, top]]
+    forms = forms_of(items)
+    corners = [[left - 1, bottom - 1], [right + 1, bottom - 1], [right + 1, top + 1], [left - 1, top + 1]]
     for form in forms:
         corners = clipped(corners, form)
     picture.polygon(corners)
