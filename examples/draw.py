@@ -67,10 +67,13 @@ def forms_of(items):
             forms += [[first, 0, level]] * (first != 0) + [[0, second, level]] * (second != 0)
     if not any(word in items for word in BOUNDING):
         forms += [[1, 0, 0], [0, 1, 0]]
-    generators = [[*row, 0] for word in ("cone", "cone_and_lattice") for row in items.get(word, [])] + items.get("vertices", [])
-    if generators and "vertices" not in items:
-        generators.append([0, 0, 1])
-    return forms + sides_of(generators)
+    if not any(word in items for word in ("cone", "cone_and_lattice", "vertices")):
+        return forms
+    generators = [[*row, 0] for word in ("cone", "cone_and_lattice") for row in items.get(word, [])]
+    sides = sides_of(generators + items.get("vertices", [[0, 0, 1]]))
+    if not sides or any([-entry for entry in side] in sides for side in sides):
+        raise ValueError("the generators do not fill the plane")
+    return forms + sides
 
 
 def index_of(rows):
@@ -144,7 +147,7 @@ class Picture:
 
 def window_of(vectors):
     """The least and the greatest coordinates of a picture that has these vectors and 0, and some room around them."""
-    return [[pick(0, *(vector[axis] for vector in vectors)) + room for axis in (0, 1)] for pick, room in ((min, -1), (max, 2))]
+    return [[pick([0, *(vector[axis] for vector in vectors)]) + room for axis in (0, 1)] for pick, room in ((min, -1), (max, 2))]
 
 
 def draw_set(picture, items):
@@ -195,7 +198,11 @@ def main(words):
     if words != ["--check"]:
         PICTURES.mkdir(exist_ok=True)
         for name in words or NAMES:
-            (PICTURES / f"{name}.svg").write_text(drawn(name))
+            try:
+                (PICTURES / f"{name}.svg").write_text(drawn(name))
+            except (ValueError, OSError) as fault:
+                print(f"{name}: {fault}")
+                return 1
         return 0
     differ = [name for name in NAMES if not (PICTURES / f"{name}.svg").exists() or (PICTURES / f"{name}.svg").read_text() != drawn(name)]
     for name in differ:

@@ -2,7 +2,8 @@
 """Runs the commands of docs/TOUR.md as a reader would, at the top of the repository, and says where one shows something else.
 
 In a block of the page that begins with `$ ` each such line is a command, and the lines below it, up to the next one or the end of the
-block, are what it shows: standard output and standard error as they come.
+block, are what it shows: standard output and standard error as they come. The built program is run in the place of `./nmz`, which would
+build it where a source is newer.
 
 Call it as: examples/tour.py          compares; the status is 1 where something differs
             examples/tour.py --write  puts into the page what the commands show now"""
@@ -12,12 +13,14 @@ from pathlib import Path
 
 TOP = Path(__file__).resolve().parent.parent
 PAGE = TOP / "docs" / "TOUR.md"
+SCRIPT, PROGRAM = "./nmz ", "crates/nmz/out/nmz "
 FENCE, PROMPT = "```", "$ "
 
 
 def shown(command):
     """The lines that the command shows."""
-    run = subprocess.run(["sh", "-c", command], cwd=TOP, stdin=subprocess.DEVNULL, stdout=subprocess.PIPE, stderr=subprocess.STDOUT)
+    words = ["sh", "-c", command.replace(SCRIPT, PROGRAM)]
+    run = subprocess.run(words, cwd=TOP, stdin=subprocess.DEVNULL, stdout=subprocess.PIPE, stderr=subprocess.STDOUT)
     return run.stdout.decode().splitlines()
 
 
@@ -44,6 +47,9 @@ def first_difference(told, now):
 
 
 def main():
+    if not (TOP / PROGRAM.strip()).exists():
+        print("the tour: skipped, the program is not built: ./nmz examples/first builds it")
+        return 0
     told = PAGE.read_text().splitlines()
     now = run_page(told)
     if "--write" in sys.argv[1:]:
