@@ -9,7 +9,9 @@ use Rattle.nz_spec.specs.Systems.{System}
 use Rattle.nz_spec.specs.Elements.{IsHilbertElement, IsFirstNotPositive}
 use Rattle.nz_input.specs.Files.{FileData}
 use Rattle.nz_input.specs.Laws.{OneFile}
+use Rattle.nz_input.specs.Texts.{IsTextOf}
 use Rattle.nz_input.specs.Refusals.{IsRefusedAt}
+use Rattle.nz_input.specs.declared.refusal.Fault.{Fault}
 use Rattle.nz_input.specs.declared.kind.Mode.{Mode}
 use Rattle.nz_input.specs.declared.kind.Mode.TheVariants.{Primal, Dual}
 use Rattle.nz_system.specs.Meaning.{meaning}
@@ -22,9 +24,13 @@ use Rattle.nz_watch.specs.Counts.{IsQuiet, Rose, last_value}
 use Rattle.nz_watch.specs.Telling.{Watched}
 use Rattle.nz_words.specs.Orders.{OrderData, IsOrder, OrdersOne}
 use Rattle.nz_run.specs.declared.status.Status.{Status}
-use Rattle.nz_run.specs.declared.status.Status.TheVariants.{Done, Usage, Absent, ReadFault, TooLong, Grammar, Meaning, Line, Grade, Range, TooMany, Stopped, WriteFault, NoMemory}
-use Rattle.nz_run.specs.Runs.{most, IsInput, IsLoaded, IsReadCause, IsCauseIn, ExplainsOrder}
-use Rattle.nz_run.specs.Completeness.{IsCrowdAbove, IsValidRun, ValidRunsAreAnswered}
+use Rattle.nz_run.specs.declared.status.Status.TheVariants.{Done, Usage, Absent, ReadFault, TooLong, Grammar, Meaning, Line, Grade, Range, TooMany, Stopped, WriteFault, NoMemory, Converted}
+use Rattle.nz_run.specs.declared.kinds.RunKind.{RunKind}
+use Rattle.nz_run.specs.declared.kinds.RunKind.TheVariants.{Plain, Convert}
+use Rattle.nz_run.specs.Solving.{IsSolveCause}
+use Rattle.nz_run.specs.Kinds.{kind_of, IsCauseIn}
+use Rattle.nz_run.specs.Runs.{most, IsInput, IsLoaded, IsShort, IsReadCause, ExplainsOrder}
+use Rattle.nz_run.specs.Completeness.{IsCrowdAbove, IsValidRun, ValidRunsAreAnswered, IsValidConversion, ConversionsAreAnswered}
 
 -- what is quiet did not rise
 not_risen : (before now : ℕ) → IsQuiet before now → ¬ Rose before now
@@ -57,65 +63,108 @@ crowd_above : (mode : Mode) (s : System) (limit : ℕ) (before now : Watched) �
 crowd_above Primal s limit before now k = k.1
 crowd_above Dual s limit before now k = (k.0, k.1)
 
-module _ (one_order : OrdersOne) (one_file : OneFile) (words : List Text) (old new : Files) (faults faults' : ℕ) (before now : Watched) (v : IsValidRun words old) where
+-- a run is of one kind
+not_both : (kind : RunKind) → kind ≡ Plain → kind ≡ Convert → ⊥
+not_both kind p c = (let bad : Plain ≡ Convert = sym p ∙ c in cc)
+
+module _ (one_order : OrdersOne) (words : List Text) (old new : Files) (faults faults' : ℕ) (before now : Watched) (mine : OrderData) (ordered : IsOrder words mine) (text : Text) (loaded : IsInput mine.make mine.project old text) where
   -- what is said of what the words order is said of the order at hand
-  explained : (status : Status) (order : OrderData) → IsOrder words order → ExplainsOrder order before now faults faults' status old new → ExplainsOrder v.order before now faults faults' status old new
-  explained status order is e = subst (λ (o : OrderData). ExplainsOrder o before now faults faults' status old new) (one_order words order v.order is v.ordered) e
+  explained : (status : Status) (order : OrderData) → IsOrder words order → ExplainsOrder order before now faults faults' status old new → ExplainsOrder mine before now faults faults' status old new
+  explained status order is e = subst (λ (o : OrderData). ExplainsOrder o before now faults faults' status old new) (one_order words order mine is ordered) e
 
   -- what is said of an input is said of the input at hand
-  of_input : (P : Text → Type 0) (input : Text) → IsInput v.order.make v.order.project old input → P input → P v.input
-  of_input P input i p = subst P (same_input v.order.make v.order.project old input v.input i v.loaded) p
-
-  -- the file at hand is the cause
-  caused : (status : Status) (input : Text) → IsInput v.order.make v.order.project old input → IsReadCause v.order.goals v.order.limit before now input status → IsCauseIn v.order.goals v.order.limit before now v.valid.file status
-  caused status input i c =
-      let c' = of_input (λ (text : Text). IsReadCause v.order.goals v.order.limit before now text status) input i c in
-      subst (λ (f : FileData). IsCauseIn v.order.goals v.order.limit before now f status) (one_file v.input c'.file v.valid.file c'.read v.valid.read) c'.cause
+  of_input : (P : Text → Type 0) (input : Text) → IsInput mine.make mine.project old input → P input → P text
+  of_input P input i p = subst P (same_input mine.make mine.project old input text i loaded) p
 
   -- where an input is loaded it is there
-  not_absent : IsQuiet faults faults' → ¬ ExplainsOrder v.order before now faults faults' Absent old new
+  not_absent : IsQuiet faults faults' → ¬ ExplainsOrder mine before now faults faults' Absent old new
   not_absent q e =
-      let l : IsLoaded v.order.project old v.input = subst (λ (side : Option ℕ). IsInput side v.order.project old v.input) e.0 v.loaded in
+      let l : IsLoaded mine.project old text = subst (λ (side : Option ℕ). IsInput side mine.project old text) e.0 loaded in
       none_some l.whole (sym (e.1 q) ∙ l.there)
     where
       none_some : (t : Text) → ¬ (None ≡ Some t)
       none_some t k = cc
+
+  -- an input that is short enough is not too long
+  not_long : IsShort text → ¬ ExplainsOrder mine before now faults faults' TooLong old new
+  not_long h e = (let l = of_input (λ (t : Text). most < length t) e.0 e.1 e.2.0.0 in omega (arith, l, h))
+
+  -- a text of a file is refused nowhere
+  not_refused : (l c : ℕ) (f : Fault) (file : FileData) → IsTextOf text file → ¬ ExplainsOrder mine before now faults faults' (Grammar l c f) old new
+  not_refused l c f file read e = (let k = of_input (λ (t : Text). IsRefusedAt t l c f) e.0 e.1 e.2.0.1 in k.no_text file read)
+
+  -- the file at hand is the cause
+  caused : OneFile → (kind : RunKind) → kind_of mine ≡ kind → (file : FileData) → IsTextOf text file → (status : Status) (input : Text) → IsInput mine.make mine.project old input → IsReadCause (kind_of mine) mine.goals mine.limit before now input status → IsCauseIn kind mine.goals mine.limit before now file status
+  caused one_file kind is file read status input i c =
+      let here = of_input (λ (t : Text). IsReadCause (kind_of mine) mine.goals mine.limit before now t status) input i c in
+      let k = subst (λ (r : RunKind). IsReadCause r mine.goals mine.limit before now text status) is here in
+      subst (λ (f : FileData). IsCauseIn kind mine.goals mine.limit before now f status) (one_file text k.file file k.read read) k.cause
 
 pub answered : OrdersOne → OneFile → ValidRunsAreAnswered
 answered oo of words old new faults faults' misses misses' stores stores' before now Done v u r = inl refl
 answered oo of words old new faults faults' misses misses' stores stores' before now NoMemory v u r = inr refl
 answered oo of words old new faults faults' misses misses' stores stores' before now Usage v u r = absurd (r.outcome.0 v.order v.ordered)
 answered oo of words old new faults faults' misses misses' stores stores' before now Absent v u r =
-    absurd (not_absent oo of words old new faults faults' before now v u.loads (explained oo of words old new faults faults' before now v Absent r.outcome.0 r.outcome.1 r.outcome.2))
+    absurd (not_absent oo words old new faults faults' before now v.order v.ordered v.input v.loaded u.loads (explained oo words old new faults faults' before now v.order v.ordered v.input v.loaded Absent r.outcome.0 r.outcome.1 r.outcome.2))
 answered oo of words old new faults faults' misses misses' stores stores' before now ReadFault v u r = absurd (not_risen faults faults' u.loads r.count)
 answered oo of words old new faults faults' misses misses' stores stores' before now WriteFault v u r = absurd (not_risen stores stores' u.keeps r.count)
 answered oo of words old new faults faults' misses misses' stores stores' before now (Stopped k) v u r = absurd (not_risen before.stops now.stops u.goes_on r.watch.1.stops)
 answered oo of words old new faults faults' misses misses' stores stores' before now TooLong v u r =
-    let e = explained oo of words old new faults faults' before now v TooLong r.outcome.0 r.outcome.1 r.outcome.2 in
-    let l = of_input oo of words old new faults faults' before now v (λ (text : Text). most < length text) e.0 e.1 e.2.0.0 in
-    let h = v.valid.short in
-    absurd (omega (arith, l, h))
+    absurd (not_long oo words old new faults faults' before now v.order v.ordered v.input v.loaded v.valid.short (explained oo words old new faults faults' before now v.order v.ordered v.input v.loaded TooLong r.outcome.0 r.outcome.1 r.outcome.2))
 answered oo of words old new faults faults' misses misses' stores stores' before now (Grammar l c f) v u r =
-    let e = explained oo of words old new faults faults' before now v (Grammar l c f) r.outcome.0 r.outcome.1 r.outcome.2 in
-    let k = of_input oo of words old new faults faults' before now v (λ (text : Text). IsRefusedAt text l c f) e.0 e.1 e.2.0.1 in
-    absurd (k.no_text v.valid.file v.valid.read)
+    absurd (not_refused oo words old new faults faults' before now v.order v.ordered v.input v.loaded l c f v.valid.file v.valid.read (explained oo words old new faults faults' before now v.order v.ordered v.input v.loaded (Grammar l c f) r.outcome.0 r.outcome.1 r.outcome.2))
+answered oo of words old new faults faults' misses misses' stores stores' before now Converted v u r =
+    let e = explained oo words old new faults faults' before now v.order v.ordered v.input v.loaded Converted r.outcome.0 r.outcome.1 r.outcome.2 in
+    absurd (not_both (kind_of v.order) v.plain e.2.0)
 answered oo of words old new faults faults' misses misses' stores stores' before now (Meaning i row f) v u r =
-    let e = explained oo of words old new faults faults' before now v (Meaning i row f) r.outcome.0 r.outcome.1 r.outcome.2 in
-    let k = caused oo of words old new faults faults' before now v (Meaning i row f) e.0 e.1 e.2.0 in
+    let e = explained oo words old new faults faults' before now v.order v.ordered v.input v.loaded (Meaning i row f) r.outcome.0 r.outcome.1 r.outcome.2 in
+    let k : IsSolveCause v.order.goals v.order.limit before now v.valid.file (Meaning i row f) = caused oo words old new faults faults' before now v.order v.ordered v.input v.loaded of Plain v.plain v.valid.file v.valid.read (Meaning i row f) e.0 e.1 e.2.0 in
     absurd (no_fault v.valid.ready k.0)
 answered oo of words old new faults faults' misses misses' stores stores' before now (Line x) v u r =
-    let e = explained oo of words old new faults faults' before now v (Line x) r.outcome.0 r.outcome.1 r.outcome.2 in
-    let k = caused oo of words old new faults faults' before now v (Line x) e.0 e.1 e.2.0 in
+    let e = explained oo words old new faults faults' before now v.order v.ordered v.input v.loaded (Line x) r.outcome.0 r.outcome.1 r.outcome.2 in
+    let k : IsSolveCause v.order.goals v.order.limit before now v.valid.file (Line x) = caused oo words old new faults faults' before now v.order v.ordered v.input v.loaded of Plain v.plain v.valid.file v.valid.read (Line x) e.0 e.1 e.2.0 in
     absurd (v.valid.answerable.positive x k.refused.0.line)
 answered oo of words old new faults faults' misses misses' stores stores' before now (Grade x) v u r =
-    let e = explained oo of words old new faults faults' before now v (Grade x) r.outcome.0 r.outcome.1 r.outcome.2 in
-    let k = caused oo of words old new faults faults' before now v (Grade x) e.0 e.1 e.2.0 in
+    let e = explained oo words old new faults faults' before now v.order v.ordered v.input v.loaded (Grade x) r.outcome.0 r.outcome.1 r.outcome.2 in
+    let k : IsSolveCause v.order.goals v.order.limit before now v.valid.file (Grade x) = caused oo words old new faults faults' before now v.order v.ordered v.input v.loaded of Plain v.plain v.valid.file v.valid.read (Grade x) e.0 e.1 e.2.0 in
     absurd (no_grade (meaning v.valid.file v.order.goals).system x v.valid.answerable.graded k.refused.1)
 answered oo of words old new faults faults' misses misses' stores stores' before now Range v u r =
-    let e = explained oo of words old new faults faults' before now v Range r.outcome.0 r.outcome.1 r.outcome.2 in
-    let k = caused oo of words old new faults faults' before now v Range e.0 e.1 e.2.0 in
+    let e = explained oo words old new faults faults' before now v.order v.ordered v.input v.loaded Range r.outcome.0 r.outcome.1 r.outcome.2 in
+    let k : IsSolveCause v.order.goals v.order.limit before now v.valid.file Range = caused oo words old new faults faults' before now v.order v.ordered v.input v.loaded of Plain v.plain v.valid.file v.valid.read Range e.0 e.1 e.2.0 in
     absurd (v.valid.answerable.small k.refused.0)
 answered oo of words old new faults faults' misses misses' stores stores' before now TooMany v u r =
-    let e = explained oo of words old new faults faults' before now v TooMany r.outcome.0 r.outcome.1 r.outcome.2 in
-    let k = caused oo of words old new faults faults' before now v TooMany e.0 e.1 e.2.0 in
+    let e = explained oo words old new faults faults' before now v.order v.ordered v.input v.loaded TooMany r.outcome.0 r.outcome.1 r.outcome.2 in
+    let k : IsSolveCause v.order.goals v.order.limit before now v.valid.file TooMany = caused oo words old new faults faults' before now v.order v.ordered v.input v.loaded of Plain v.plain v.valid.file v.valid.read TooMany e.0 e.1 e.2.0 in
     absurd (v.valid.answerable.few (crowd_above (meaning v.valid.file v.order.goals).mode (meaning v.valid.file v.order.goals).system v.order.limit before now k.refused))
+
+pub converted : OrdersOne → OneFile → ConversionsAreAnswered
+converted oo of words old new faults faults' misses misses' stores stores' before now Converted v u r = inl refl
+converted oo of words old new faults faults' misses misses' stores stores' before now NoMemory v u r = inr refl
+converted oo of words old new faults faults' misses misses' stores stores' before now Usage v u r = absurd (r.outcome.0 v.order v.ordered)
+converted oo of words old new faults faults' misses misses' stores stores' before now Absent v u r =
+    absurd (not_absent oo words old new faults faults' before now v.order v.ordered v.input v.loaded u.loads (explained oo words old new faults faults' before now v.order v.ordered v.input v.loaded Absent r.outcome.0 r.outcome.1 r.outcome.2))
+converted oo of words old new faults faults' misses misses' stores stores' before now ReadFault v u r = absurd (not_risen faults faults' u.loads r.count)
+converted oo of words old new faults faults' misses misses' stores stores' before now WriteFault v u r = absurd (not_risen stores stores' u.keeps r.count)
+converted oo of words old new faults faults' misses misses' stores stores' before now (Stopped k) v u r = absurd (not_risen before.stops now.stops u.goes_on r.watch.1.stops)
+converted oo of words old new faults faults' misses misses' stores stores' before now TooLong v u r =
+    absurd (not_long oo words old new faults faults' before now v.order v.ordered v.input v.loaded v.short (explained oo words old new faults faults' before now v.order v.ordered v.input v.loaded TooLong r.outcome.0 r.outcome.1 r.outcome.2))
+converted oo of words old new faults faults' misses misses' stores stores' before now (Grammar l c f) v u r =
+    absurd (not_refused oo words old new faults faults' before now v.order v.ordered v.input v.loaded l c f v.file v.read (explained oo words old new faults faults' before now v.order v.ordered v.input v.loaded (Grammar l c f) r.outcome.0 r.outcome.1 r.outcome.2))
+converted oo of words old new faults faults' misses misses' stores stores' before now Done v u r =
+    let e = explained oo words old new faults faults' before now v.order v.ordered v.input v.loaded Done r.outcome.0 r.outcome.1 r.outcome.2 in
+    absurd (not_both (kind_of v.order) e.2.0 v.converts)
+converted oo of words old new faults faults' misses misses' stores stores' before now (Meaning i row f) v u r =
+    let e = explained oo words old new faults faults' before now v.order v.ordered v.input v.loaded (Meaning i row f) r.outcome.0 r.outcome.1 r.outcome.2 in
+    absurd (caused oo words old new faults faults' before now v.order v.ordered v.input v.loaded of Convert v.converts v.file v.read (Meaning i row f) e.0 e.1 e.2.0)
+converted oo of words old new faults faults' misses misses' stores stores' before now (Line x) v u r =
+    let e = explained oo words old new faults faults' before now v.order v.ordered v.input v.loaded (Line x) r.outcome.0 r.outcome.1 r.outcome.2 in
+    absurd (caused oo words old new faults faults' before now v.order v.ordered v.input v.loaded of Convert v.converts v.file v.read (Line x) e.0 e.1 e.2.0)
+converted oo of words old new faults faults' misses misses' stores stores' before now (Grade x) v u r =
+    let e = explained oo words old new faults faults' before now v.order v.ordered v.input v.loaded (Grade x) r.outcome.0 r.outcome.1 r.outcome.2 in
+    absurd (caused oo words old new faults faults' before now v.order v.ordered v.input v.loaded of Convert v.converts v.file v.read (Grade x) e.0 e.1 e.2.0)
+converted oo of words old new faults faults' misses misses' stores stores' before now Range v u r =
+    let e = explained oo words old new faults faults' before now v.order v.ordered v.input v.loaded Range r.outcome.0 r.outcome.1 r.outcome.2 in
+    absurd (caused oo words old new faults faults' before now v.order v.ordered v.input v.loaded of Convert v.converts v.file v.read Range e.0 e.1 e.2.0)
+converted oo of words old new faults faults' misses misses' stores stores' before now TooMany v u r =
+    let e = explained oo words old new faults faults' before now v.order v.ordered v.input v.loaded TooMany r.outcome.0 r.outcome.1 r.outcome.2 in
+    absurd (caused oo words old new faults faults' before now v.order v.ordered v.input v.loaded of Convert v.converts v.file v.read TooMany e.0 e.1 e.2.0)

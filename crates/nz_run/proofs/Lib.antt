@@ -1,5 +1,6 @@
 mod Answered
 pub mod Composing
+pub mod KindsFound
 pub mod Pieces
 pub mod Printing
 pub mod Answering

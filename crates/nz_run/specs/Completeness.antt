@@ -1,5 +1,5 @@
--- Which runs end with Done, unless memory runs out.
-use Rattle.std.specs.Prelude.{ℕ, List}
+-- Which runs end with Done or Converted, unless memory runs out.
+use Rattle.std.specs.Prelude.{◌≡◌, ℕ, List}
 use Rattle.nz_vec.specs.Texts.{Text}
 use Rattle.nz_spec.specs.Systems.{System, IsMember}
 use Rattle.nz_spec.specs.Monoids.{IsPositive}
@@ -19,8 +19,11 @@ use Rattle.nz_watch.specs.Telling.{Watched}
 use Rattle.nz_words.specs.Orders.{OrderData, IsOrder}
 use Rattle.nz_run.specs.FileSystems.{HasMeaning}
 use Rattle.nz_run.specs.declared.status.Status.{Status}
-use Rattle.nz_run.specs.declared.status.Status.TheVariants.{Done}
-use Rattle.nz_run.specs.Runs.{IsInput, IsShort, Explains, CountRose, WatchSays, Decided}
+use Rattle.nz_run.specs.declared.status.Status.TheVariants.{Done, Converted}
+use Rattle.nz_run.specs.declared.kinds.RunKind.TheVariants.{Plain, Convert}
+use Rattle.nz_run.specs.Kinds.{kind_of}
+use Rattle.nz_run.specs.Runs.{IsInput, IsShort, Explains, CountRose, Decided}
+use Rattle.nz_run.specs.Watches.{WatchSays}
 
 -- what the algorithm of the mode has to hold at once is more than n vectors
 abbrev pub IsCrowdAbove : Mode → System → ℕ → Type 0
@@ -42,13 +45,25 @@ pub record IsValidInput (goals : List Goal) (limit : ℕ) (input : Text) : Type 
   pub ready : HasMeaning file goals
   pub answerable : IsAnswerable (meaning file goals) limit
 
--- the words order something, and the input of that is valid
+-- the words order a plain run, and the input of that is valid
 pub record IsValidRun (words : List Text) (files : Files) : Type 0 where
   pub order : OrderData
   pub ordered : IsOrder words order
+  pub plain : kind_of order ≡ Plain
   pub input : Text
   pub loaded : IsInput order.make order.project files input
   pub valid : IsValidInput order.goals order.limit input
+
+-- the words order a conversion, and its input is a text, not too long, of a file
+pub record IsValidConversion (words : List Text) (files : Files) : Type 0 where
+  pub order : OrderData
+  pub ordered : IsOrder words order
+  pub converts : kind_of order ≡ Convert
+  pub input : Text
+  pub loaded : IsInput order.make order.project files input
+  pub short : IsShort input
+  pub file : FileData
+  pub read : IsTextOf input file
 
 -- the folder counts no fault and no failed store, and the watch no stop
 pub record IsUndisturbed (faults faults' stores stores' : ℕ) (before now : Watched) : Type 0 where
@@ -66,3 +81,8 @@ pub record IsRunStatus (words : List Text) (old new : Files) (faults faults' mis
 abbrev pub ValidRunsAreAnswered : Type 0
 ValidRunsAreAnswered = (words : List Text) (old new : Files) (faults faults' misses misses' stores stores' : ℕ) (before now : Watched) (status : Status)
     → IsValidRun words old → IsUndisturbed faults faults' stores stores' before now → IsRunStatus words old new faults faults' misses misses' stores stores' before now status → Decided status Done
+
+-- a valid conversion that nothing disturbs ends with Converted, unless memory runs out
+abbrev pub ConversionsAreAnswered : Type 0
+ConversionsAreAnswered = (words : List Text) (old new : Files) (faults faults' misses misses' stores stores' : ℕ) (before now : Watched) (status : Status)
+    → IsValidConversion words old → IsUndisturbed faults faults' stores stores' before now → IsRunStatus words old new faults faults' misses misses' stores stores' before now status → Decided status Converted

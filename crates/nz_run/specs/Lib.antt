@@ -1,5 +1,8 @@
 pub mod FileSystems
 pub mod Statuses
+pub mod Watches
+pub mod Solving
+pub mod Kinds
 pub mod Runs
 pub mod Summaries
 pub mod Completeness

@@ -18,15 +18,18 @@ use Rattle.nz_solve.specs.Solutions.{IsSolution, AreToldOf, IsSolveRefusal}
 use Rattle.nz_solve.specs.declared.refusal.SolveRefusal.{SolveRefusal}
 use Rattle.nz_solve.specs.declared.refusal.SolveRefusal.TheVariants as solve
 use Rattle.nz_words.specs.Orders.{OrderData, IsOrder, AreRefused, input_name}
-use Rattle.nz_run.specs.FileSystems.{HasMeaning}
+use Rattle.nz_run.specs.Kinds.{kind_of, ending_of, IsFileFound, IsCauseIn}
+use Rattle.nz_run.specs.Watches.{WasToldNothing}
+use Rattle.nz_run.specs.declared.kinds.RunKind.{RunKind}
+use Rattle.nz_run.specs.declared.kinds.RunKind.TheVariants.{Plain, Convert}
 use Rattle.nz_input.specs.Canonical.{canonical}
 use Rattle.nz_make.specs.Squares.{made_file}
 use Rattle.nz_run.specs.declared.status.Status.{Status}
-use Rattle.nz_run.specs.declared.status.Status.TheVariants.{Done, Usage, Absent, ReadFault, TooLong, Grammar, Meaning, Line, Grade, Range, TooMany, Stopped, WriteFault, NoMemory}
+use Rattle.nz_run.specs.declared.status.Status.TheVariants.{Done, Usage, Absent, ReadFault, TooLong, Grammar, Meaning, Line, Grade, Range, TooMany, Stopped, WriteFault, NoMemory, Converted}
 
--- the file that is stored
-abbrev pub output_name : Text → Text
-output_name project = project ++ codes ".out"
+-- the file that a run stores
+abbrev pub output_name : OrderData → Text
+output_name order = order.project ++ ending_of (kind_of order)
 
 -- the most bytes of an input
 abbrev pub most : ℕ
@@ -51,117 +54,64 @@ IsSideOf side = IfSome side (λ n. (1 ≤ n) × (n ≤ 150))
 abbrev pub IsShort : Text → Type 0
 IsShort input = length input ≤ most
 
--- ---- what a watch is told
+-- ---- what a run finds
 
--- the watch was told nothing
-abbrev pub WasToldNothing : Watched → Watched → Type 0
-WasToldNothing before now = WasTold before now [] false
-
--- the watch was told some pairs, and all but the last, or all, were answered true
-abbrev pub WasToldPairs : Bool → Watched → Watched → Type 0
-WasToldPairs stopped before now = (pairs : List Pair) × WasTold before now pairs stopped
-
--- a run ends with Stopped just where its watch says stop; no stage is told before the meaning of the file is clear, nor where there is a line
-abbrev pub WatchSays : Status → Watched → Watched → Type 0
-WatchSays Done before now = WasToldPairs false before now
-WatchSays (Grade v) before now = WasToldPairs false before now
-WatchSays Range before now = WasToldPairs false before now
-WatchSays TooMany before now = WasToldPairs false before now
-WatchSays (Stopped k) before now = WasToldPairs true before now
-WatchSays WriteFault before now = WasToldPairs false before now
-WatchSays NoMemory before now = WasToldPairs false before now
-WatchSays status before now = WasToldNothing before now
-
--- ---- what is answered of a file
-
--- the output is the text of exactly what is asked of the system, which has no line and no degree of 0 or less; its irreducible elements are no more than the limit
-pub record IsAnswered (s : SystemData) (limit : ℕ) (output : Text) : Type 0 where
-  pub outcome : OutcomeData
-  pub solution : IsSolution s outcome
-  pub within : IsWithin s.system limit
-  pub same : output ≡ text_of outcome
-
--- the output answers what file and words ask, and the watch was told all stages of the file's system, in the mode of file and words
-pub record IsFileSolved (goals : List Goal) (limit : ℕ) (before now : Watched) (file : FileData) (output : Text) : Type 0 where
-  pub ready : HasMeaning file goals
-  pub answered : IsAnswered (meaning file goals) limit output
-  pub told : HasPassedAll (AreToldOf (meaning file goals).mode (system_of file)) 0 before now
-
--- the input is a text of a file, and the output answers what it and the words ask
-pub record IsSolved (goals : List Goal) (limit : ℕ) (before now : Watched) (input output : Text) : Type 0 where
+-- the input is a text of a file, and the output is what a run of the kind finds for that
+pub record IsFound (kind : RunKind) (goals : List Goal) (limit : ℕ) (before now : Watched) (input output : Text) : Type 0 where
   pub file : FileData
   pub short : IsShort input
   pub read : IsTextOf input file
-  pub solved : IsFileSolved goals limit before now file output
-
--- the file breaks no rule of meaning, and its system is refused, with what the watch was told
-pub record IsUnsolved (goals : List Goal) (limit : ℕ) (before now : Watched) (file : FileData) (r : SolveRefusal) : Type 0 where
-  pub ready : HasMeaning file goals
-  pub refused : IsSolveRefusal (meaning file goals).mode (system_of file) limit before now r
-
--- the status of a refusal
-abbrev pub status_of : SolveRefusal → Status
-status_of (solve.Line v) = Line v
-status_of (solve.Grade v) = Grade v
-status_of solve.Range = Range
-status_of solve.TooMany = TooMany
-status_of (solve.Stopped k) = Stopped k
-status_of solve.NoMemory = NoMemory
-
--- the file is the cause of the status, where the words name these goals; memory may run out before a stage was told, or among the stages
-abbrev pub IsCauseIn : List Goal → (limit : ℕ) → (before now : Watched) → FileData → Status → Type 0
-IsCauseIn goals limit before now file (Meaning i r f) = IsMeaning file goals (Err (refusal.Meaning i r f)) × WasToldNothing before now
-IsCauseIn goals limit before now file (Line v) = IsUnsolved goals limit before now file (solve.Line v)
-IsCauseIn goals limit before now file (Grade v) = IsUnsolved goals limit before now file (solve.Grade v)
-IsCauseIn goals limit before now file Range = IsUnsolved goals limit before now file solve.Range
-IsCauseIn goals limit before now file TooMany = IsUnsolved goals limit before now file solve.TooMany
-IsCauseIn goals limit before now file (Stopped k) = IsUnsolved goals limit before now file (solve.Stopped k)
-IsCauseIn goals limit before now file NoMemory = WasToldNothing before now ⊎ IsUnsolved goals limit before now file solve.NoMemory
-IsCauseIn goals limit before now file status = ⊥
+  pub found : IsFileFound kind goals limit before now file output
 
 -- the input is a text of a file that is the cause of the status
-pub record IsReadCause (goals : List Goal) (limit : ℕ) (before now : Watched) (input : Text) (status : Status) : Type 0 where
+pub record IsReadCause (kind : RunKind) (goals : List Goal) (limit : ℕ) (before now : Watched) (input : Text) (status : Status) : Type 0 where
   pub file : FileData
   pub short : IsShort input
   pub read : IsTextOf input file
-  pub cause : IsCauseIn goals limit before now file status
+  pub cause : IsCauseIn kind goals limit before now file status
 
--- the input is the cause of the status, or memory ran out: before a stage was told, or among the stages of the file's system
-abbrev pub IsCause : List Goal → (limit : ℕ) → (before now : Watched) → Text → Status → Type 0
-IsCause goals limit before now input TooLong = (most < length input) × WasToldNothing before now
-IsCause goals limit before now input (Grammar l c f) = IsShort input × IsRefusedAt input l c f × WasToldNothing before now
-IsCause goals limit before now input (Meaning i r f) = IsReadCause goals limit before now input (Meaning i r f)
-IsCause goals limit before now input (Line v) = IsReadCause goals limit before now input (Line v)
-IsCause goals limit before now input (Grade v) = IsReadCause goals limit before now input (Grade v)
-IsCause goals limit before now input Range = IsReadCause goals limit before now input Range
-IsCause goals limit before now input TooMany = IsReadCause goals limit before now input TooMany
-IsCause goals limit before now input (Stopped k) = IsReadCause goals limit before now input (Stopped k)
-IsCause goals limit before now input NoMemory = WasToldNothing before now ⊎ IsReadCause goals limit before now input NoMemory
-IsCause goals limit before now input Done = ⊥
-IsCause goals limit before now input Usage = ⊥
-IsCause goals limit before now input Absent = ⊥
-IsCause goals limit before now input ReadFault = ⊥
-IsCause goals limit before now input WriteFault = ⊥
+-- the input is the cause of the status of a run of the kind, or memory ran out: before a stage was told, or among the stages of the file's system
+abbrev pub IsCause : RunKind → List Goal → (limit : ℕ) → (before now : Watched) → Text → Status → Type 0
+IsCause kind goals limit before now input TooLong = (most < length input) × WasToldNothing before now
+IsCause kind goals limit before now input (Grammar l c f) = IsShort input × IsRefusedAt input l c f × WasToldNothing before now
+IsCause kind goals limit before now input (Meaning i r f) = IsReadCause kind goals limit before now input (Meaning i r f)
+IsCause kind goals limit before now input (Line v) = IsReadCause kind goals limit before now input (Line v)
+IsCause kind goals limit before now input (Grade v) = IsReadCause kind goals limit before now input (Grade v)
+IsCause kind goals limit before now input Range = IsReadCause kind goals limit before now input Range
+IsCause kind goals limit before now input TooMany = IsReadCause kind goals limit before now input TooMany
+IsCause kind goals limit before now input (Stopped k) = IsReadCause kind goals limit before now input (Stopped k)
+IsCause kind goals limit before now input NoMemory = WasToldNothing before now ⊎ IsReadCause kind goals limit before now input NoMemory
+IsCause kind goals limit before now input Done = ⊥
+IsCause kind goals limit before now input Usage = ⊥
+IsCause kind goals limit before now input Absent = ⊥
+IsCause kind goals limit before now input ReadFault = ⊥
+IsCause kind goals limit before now input WriteFault = ⊥
+IsCause kind goals limit before now input Converted = ⊥
 
 -- ---- what a run leaves
 
--- what the status says of the input and of the files before and after it was solved; the name is that of the output
-abbrev pub Leaves : List Goal → (limit : ℕ) → (before now : Watched) → (name input : Text) → Status → Files → Files → Type 0
-Leaves goals limit before now name input Done old new = (output : Text) × IsSolved goals limit before now input output × Stores name output old new
-Leaves goals limit before now name input WriteFault old new = (output : Text) × IsSolved goals limit before now input output × SameOthers name old new
-Leaves goals limit before now name input status old new = IsCause goals limit before now input status × SameFiles old new
+-- the run that is ordered is of this kind, and what it finds is stored under this name
+abbrev pub HasStored : RunKind → OrderData → (before now : Watched) → (name input : Text) → Files → Files → Type 0
+HasStored kind order before now name input old new = (kind_of order ≡ kind) × (output : Text) × IsFound kind order.goals order.limit before now input output × Stores name output old new
 
--- what the status of a run of the project with these goals says of the files; the counts of faults tell whether reading had one
-abbrev pub ExplainsFor : Option ℕ → Text → List Goal → (limit : ℕ) → (before now : Watched) → (faults faults' : ℕ) → Status → Files → Files → Type 0
-ExplainsFor side project goals limit before now faults faults' Usage old new = ⊥
-ExplainsFor side project goals limit before now faults faults' Absent old new = (side ≡ None) × (IsQuiet faults faults' → old (input_name project) ≡ None) × SameFiles old new
-ExplainsFor side project goals limit before now faults faults' ReadFault old new = (side ≡ None) × SameFiles old new
-ExplainsFor side project goals limit before now faults faults' NoMemory old new = SameFiles old new × (WasToldNothing before now ⊎ ((input : Text) × IsInput side project old input × IsReadCause goals limit before now input NoMemory))
-ExplainsFor side project goals limit before now faults faults' status old new = (input : Text) × IsInput side project old input × Leaves goals limit before now (output_name project) input status old new
+-- what the status of a run that is ordered says of the input and of the files before and after; the name is that of the file that it stores
+abbrev pub Leaves : OrderData → (before now : Watched) → (name input : Text) → Status → Files → Files → Type 0
+Leaves order before now name input Done old new = HasStored Plain order before now name input old new
+Leaves order before now name input Converted old new = HasStored Convert order before now name input old new
+Leaves order before now name input WriteFault old new = (output : Text) × IsFound (kind_of order) order.goals order.limit before now input output × SameOthers name old new
+Leaves order before now name input status old new = IsCause (kind_of order) order.goals order.limit before now input status × SameFiles old new
 
--- the same for an order: its project, goals and limit, and the side of the file that it has made
+-- memory ran out in the run that is ordered, as its input was read or after
+abbrev pub RanOut : OrderData → (before now : Watched) → Files → Type 0
+RanOut order before now old = (input : Text) × IsInput order.make order.project old input × IsReadCause (kind_of order) order.goals order.limit before now input NoMemory
+
+-- what the status of a run that is ordered says of the files; the counts of faults tell whether reading had one
 abbrev pub ExplainsOrder : OrderData → (before now : Watched) → (faults faults' : ℕ) → Status → Files → Files → Type 0
-ExplainsOrder order before now faults faults' status old new = ExplainsFor order.make order.project order.goals order.limit before now faults faults' status old new
+ExplainsOrder order before now faults faults' Usage old new = ⊥
+ExplainsOrder order before now faults faults' Absent old new = (order.make ≡ None) × (IsQuiet faults faults' → old (input_name order.project) ≡ None) × SameFiles old new
+ExplainsOrder order before now faults faults' ReadFault old new = (order.make ≡ None) × SameFiles old new
+ExplainsOrder order before now faults faults' NoMemory old new = SameFiles old new × (WasToldNothing before now ⊎ RanOut order before now old)
+ExplainsOrder order before now faults faults' status old new = (input : Text) × IsInput order.make order.project old input × Leaves order before now (output_name order) input status old new
 
 -- what the status of a run says of the words, the files and the watch
 abbrev pub Explains : List Text → (before now : Watched) → (faults faults' : ℕ) → Status → Files → Files → Type 0

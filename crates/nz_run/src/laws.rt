@@ -1,8 +1,8 @@
 //! What all runs of a file have in common, and which runs are answered.
-ghost use Rattle.nz_run.specs.Completeness.{ValidRunsAreAnswered};
-ghost use Rattle.nz_run.specs.Laws.{ModesGiveOneText, RunsGiveOneText};
+ghost use Rattle.nz_run.specs.Completeness.{ValidRunsAreAnswered, ConversionsAreAnswered};
+ghost use Rattle.nz_run.specs.Laws.{ModesGiveOneText, RunsGiveOneText, ConversionsKeepTheFile};
 
-use nz_input::{texts_have_one_file, texts_keep_limits};
+use nz_input::{texts_have_one_file, texts_keep_limits, written_files_are_read_back};
 use nz_solve::modes_agree;
 use nz_words::words_order_one_thing;
 
@@ -27,6 +27,22 @@ pub fn runs_give_one_text()
 /// than the limit, and no fault and no stop comes from outside, a run ends with Done, or for want of memory.
 pub fn valid_runs_are_answered()
     ensures { ValidRunsAreAnswered }
+{
+    words_order_one_thing();
+    texts_have_one_file();
+}
+
+/// What a conversion stores is read back as the file that it read, and as no other.
+pub fn conversions_keep_the_file()
+    ensures { ConversionsKeepTheFile }
+{
+    texts_keep_limits();
+    written_files_are_read_back();
+}
+
+/// A conversion whose input is a text of a file, and that no fault disturbs, ends with Converted, or for want of memory.
+pub fn conversions_are_answered()
+    ensures { ConversionsAreAnswered }
 {
     words_order_one_thing();
     texts_have_one_file();

@@ -5,12 +5,19 @@
 //! Start with `specs/Runs.antt`, then `run`.
 #![tactic(auto)]
 
+mod converting;
+mod finding;
+mod kinds;
 mod laws;
 mod solving;
 mod status;
 mod status_lines;
 mod top;
 
-pub use laws::{modes_give_one_text, runs_give_one_text, valid_runs_are_answered};
+pub use kinds::RunKind;
+pub use laws::{
+    conversions_are_answered, conversions_keep_the_file, modes_give_one_text, runs_give_one_text,
+    valid_runs_are_answered,
+};
 pub use status::Status;
 pub use top::run;

@@ -1,20 +1,17 @@
-//! From the bytes of the input to the bytes of the output.
+//! A plain run: a file's system, solved.
 ghost use Rattle.std.specs.Prelude.{◌≡◌, MatchResult};
 ghost use Rattle.nz_watch.specs.Telling.{HasPassedAll};
 ghost use Rattle.nz_solve.specs.Solutions.{AreToldOf, IsSolveRefusal};
-ghost use Rattle.nz_run.specs.Runs.{IsAnswered, IsFileSolved, IsSolved, IsCauseIn, IsCause, status_of};
+ghost use Rattle.nz_run.specs.Solving.{IsAnswered, IsFileSolved, IsSolveCause, status_of};
 
 use crate::Status;
 use nz_blocks::blocks;
-use nz_input::{File, Goals, ReadRefusal, read};
+use nz_input::{File, Goals};
 use nz_solve::{SolveRefusal, solve};
 use nz_system::{System, SystemRefusal, system_of};
 use nz_vec::Bytes;
 use nz_watch::Watch;
 use std::alloc::Global;
-
-/// The most bytes that an input may have.
-pub const MOST: usize = 16_777_216;
 
 // The text for a system.
 fn answer(
@@ -49,15 +46,15 @@ fn status_of(refusal: SolveRefusal) -> Status
     }
 }
 
-// The text for a file.
-fn file_solved(
+/// The text of what the file and these goals of the words ask, or the status that ends the run before the store.
+pub(crate) fn file_solved(
     alloc: Global,
     file: &File,
     goals: &Goals,
     limit: u32,
     watch: &mut Box<dyn Watch>,
 ) -> Result<Bytes, Status>
-    ensures { MatchResult result (IsFileSolved goals.now limit (seen watch.old) (seen watch.new) file.now) (IsCauseIn goals.now limit (seen watch.old) (seen watch.new) file.now) }
+    ensures { MatchResult result (IsFileSolved goals.now limit (seen watch.old) (seen watch.new) file.now) (IsSolveCause goals.now limit (seen watch.old) (seen watch.new) file.now) }
 {
     let system = match system_of(alloc, file, goals) {
         Ok(system) => system,
@@ -70,35 +67,4 @@ fn file_solved(
         Ok(text) => Ok(text),
         Err(refusal) => Err(status_of(refusal)),
     }
-}
-
-/// The text to be stored for the input, where the words name these goals and this limit, or the status that ends the run before the store.
-pub fn solved(
-    alloc: Global,
-    input: &[u8],
-    goals: &Goals,
-    limit: u32,
-    watch: &mut Box<dyn Watch>,
-) -> Result<Bytes, Status>
-    ensures { MatchResult result (IsSolved goals.now limit (seen watch.old) (seen watch.new) input.now) (IsCause goals.now limit (seen watch.old) (seen watch.new) input.now) }
-{
-    if input.len() > MOST {
-        return Err(Status::TooLong);
-    }
-    let file = match read(alloc, input) {
-        Ok(file) => file,
-        Err(
-            ReadRefusal::Grammar {
-                line,
-                column,
-                fault,
-            },
-        ) => return Err(Status::Grammar {
-            line,
-            column,
-            fault,
-        }),
-        Err(ReadRefusal::NoMemory) => return Err(Status::NoMemory),
-    };
-    file_solved(alloc, &file, goals, limit, watch)
 }

@@ -4,7 +4,7 @@ use nz_input::Fault;
 use nz_system::MeaningFault;
 use nz_vec::Ints;
 
-/// What a run ends with. On every status but `Done` and `WriteFault` the files are as before.
+/// What a run ends with. On every status but `Done`, `Converted` and `WriteFault` the files are as before.
 #[derive(Drop)]
 pub enum Status {
     /// The text of what was asked is stored.
@@ -46,6 +46,8 @@ pub enum Status {
     WriteFault,
     /// Memory ran out.
     NoMemory,
+    /// The canonical text of the input's file is stored.
+    Converted,
 }
 
 impl Status {
@@ -70,6 +72,7 @@ impl Status {
             Status::Stopped { .. } => 12,
             Status::WriteFault => 13,
             Status::NoMemory => 14,
+            Status::Converted => 17,
         }
     }
 }

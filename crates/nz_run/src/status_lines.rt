@@ -195,6 +195,7 @@ fn put_status<S: Sink>(console: &mut S, status: &Status) -> bool
         Status::TooMany => put_all(console, b"too many\n"),
         Status::WriteFault => put_all(console, b"write fault\n"),
         Status::NoMemory => put_all(console, b"no memory\n"),
+        Status::Converted => put_all(console, b"converted\n"),
     }
 }
 

@@ -2,17 +2,19 @@
 ghost use Rattle.std.specs.Prelude.{◌≡◌, ◌≤◌, ◌++◌, None, Some, IfOk, string_bytes};
 ghost use Rattle.nz_edge.specs.Folders.{BothTold};
 ghost use Rattle.nz_words.specs.Parts.{bytes_of_each};
-ghost use Rattle.nz_words.specs.Orders.{AreRefused, OrderData, IsOrder};
+ghost use Rattle.nz_words.specs.Orders.{AreRefused, OrderData, IsOrder, input_name};
 ghost use Rattle.nz_input.specs.Canonical.{canonical};
 ghost use Rattle.nz_make.specs.Squares.{made_file};
-ghost use Rattle.nz_run.specs.Runs.{Explains, ExplainsOrder, ExplainsFor, Decided, Leaves, CountRose, StoreCount, WatchSays, IsSideOf, IsUnasked, AreUnasked};
+ghost use Rattle.nz_run.specs.Runs.{Explains, ExplainsOrder, Decided, Leaves, CountRose, StoreCount, IsSideOf, IsUnasked, AreUnasked, output_name};
+ghost use Rattle.nz_run.specs.Watches.{WatchSays};
 ghost use Rattle.nz_run.specs.Summaries.{PutsLines};
 
 use crate::Status;
-use crate::solving::{MOST, solved};
+use crate::finding::{MOST, found};
+use crate::kinds::kind_ordered;
 use crate::status_lines::put_lines;
 use nz_edge::{Folder, Load, Sink, Stored};
-use nz_input::{Goals, write};
+use nz_input::write;
 use nz_make::{irreducibles_are_points, made};
 use nz_vec::{Bytes, NoMemory};
 use nz_watch::Watch;
@@ -32,62 +34,74 @@ fn file_name(alloc: Global, project: &str, ending: &str) -> Result<String, NoMem
     }
 }
 
-// Solves what was loaded, and stores the text.
-fn solve_and_store<F: Folder>(
+// Finds the text for what was loaded, and stores it.
+fn find_and_store<F: Folder>(
     alloc: Global,
     output_name: &str,
-    goals: &Goals,
-    limit: u32,
+    order: &RunOrder,
     input: &[u8],
     folder: &mut F,
     watch: &mut Box<dyn Watch>,
 ) -> Status
-    ensures outcome { BothTold (F.files folder.old) (F.files folder.new) (Leaves goals.now limit (seen watch.old) (seen watch.new) output_name.now input.now result) }
+    ensures outcome { BothTold (F.files folder.old) (F.files folder.new) (Leaves order.now (seen watch.old) (seen watch.new) output_name.now input.now result) }
     ensures watch { WatchSays result (seen watch.old) (seen watch.new) }
     ensures count { StoreCount result (F.store_faults folder.old) (F.store_faults folder.new) }
     ensures faults { F.faults folder.new ≡ F.faults folder.old }
     ensures misses { F.misses folder.new ≡ F.misses folder.old }
     ensures later { F.store_faults folder.old ≤ F.store_faults folder.new }
 {
-    let text = match solved(alloc, input, goals, limit, watch) {
+    let text = match found(alloc, order, input, watch) {
         Ok(text) => text,
         Err(status) => return status,
     };
     match folder.store(output_name, text.as_slice()) {
-        Stored::Done => Status::Done,
+        Stored::Done => kind_ordered(order).status_when_stored(),
         Stored::Failed => Status::WriteFault,
         Stored::NoMemory => Status::NoMemory,
     }
 }
 
-// The run of a project with these goals and this limit of the words, whose file is loaded, up to its lines.
+// The name of the file that the run reads, where none is made for it.
+fn input_name(alloc: Global, order: &RunOrder) -> Result<String, NoMemory>
+    ensures { IfOk result (λ name. string_bytes name ≡ input_name order.now.project) }
+{
+    file_name(alloc, order.project.as_str(), ".in")
+}
+
+// The name of the file that the run stores.
+fn output_name(alloc: Global, order: &RunOrder) -> Result<String, NoMemory>
+    ensures { IfOk result (λ name. string_bytes name ≡ output_name order.now) }
+{
+    let ending = kind_ordered(order).ending();
+    file_name(alloc, order.project.as_str(), ending)
+}
+
+// The run that is ordered, whose file is loaded, up to its lines.
 fn run_loaded<F: Folder>(
     alloc: Global,
-    project: &str,
-    goals: &Goals,
-    limit: u32,
+    order: &RunOrder,
     folder: &mut F,
     watch: &mut Box<dyn Watch>,
 ) -> Status
-    ensures outcome { BothTold (F.files folder.old) (F.files folder.new) (ExplainsFor None project.now goals.now limit (seen watch.old) (seen watch.new) (F.faults folder.old) (F.faults folder.new) result) }
+    requires { order.now.make ≡ None }
+    ensures outcome { BothTold (F.files folder.old) (F.files folder.new) (ExplainsOrder order.now (seen watch.old) (seen watch.new) (F.faults folder.old) (F.faults folder.new) result) }
     ensures watch { WatchSays result (seen watch.old) (seen watch.new) }
     ensures count { CountRose result (F.faults folder.old) (F.faults folder.new) (F.misses folder.old) (F.misses folder.new) (F.store_faults folder.old) (F.store_faults folder.new) }
     ensures not_usage { ¬ (result ≡ Status.Usage) }
 {
-    let input_name = match file_name(alloc, project, ".in") {
+    let input_name = match input_name(alloc, order) {
         Ok(name) => name,
         Err(_) => return Status::NoMemory,
     };
-    let output_name = match file_name(alloc, project, ".out") {
+    let output_name = match output_name(alloc, order) {
         Ok(name) => name,
         Err(_) => return Status::NoMemory,
     };
     match folder.load(alloc, input_name.as_str(), MOST) {
-        Load::Bytes(input) => solve_and_store(
+        Load::Bytes(input) => find_and_store(
             alloc,
             output_name.as_str(),
-            goals,
-            limit,
+            order,
             input.as_slice(),
             folder,
             watch,
@@ -111,26 +125,25 @@ fn made_text(alloc: Global, side: u32) -> Result<Bytes, NoMemory>
     write(alloc, &file)
 }
 
-// The run of a project with these goals and this limit of the words, whose file is made, up to its lines. It asks the folder for none.
+// The run that is ordered, whose file is made for this side, up to its lines. It asks the folder for none.
 fn run_made<F: Folder>(
     alloc: Global,
     side: u32,
-    project: &str,
-    goals: &Goals,
-    limit: u32,
+    order: &RunOrder,
     folder: &mut F,
     watch: &mut Box<dyn Watch>,
 ) -> Status
     requires low { 1 ≤ side }
     requires high { side ≤ 150 }
-    ensures outcome { BothTold (F.files folder.old) (F.files folder.new) (ExplainsFor (Some side) project.now goals.now limit (seen watch.old) (seen watch.new) (F.faults folder.old) (F.faults folder.new) result) }
+    requires made { order.now.make ≡ Some side }
+    ensures outcome { BothTold (F.files folder.old) (F.files folder.new) (ExplainsOrder order.now (seen watch.old) (seen watch.new) (F.faults folder.old) (F.faults folder.new) result) }
     ensures watch { WatchSays result (seen watch.old) (seen watch.new) }
     ensures count { CountRose result (F.faults folder.old) (F.faults folder.new) (F.misses folder.old) (F.misses folder.new) (F.store_faults folder.old) (F.store_faults folder.new) }
     ensures not_usage { ¬ (result ≡ Status.Usage) }
     ensures faults { F.faults folder.new ≡ F.faults folder.old }
     ensures misses { F.misses folder.new ≡ F.misses folder.old }
 {
-    let output_name = match file_name(alloc, project, ".out") {
+    let output_name = match output_name(alloc, order) {
         Ok(name) => name,
         Err(_) => return Status::NoMemory,
     };
@@ -138,11 +151,10 @@ fn run_made<F: Folder>(
         Ok(input) => input,
         Err(_) => return Status::NoMemory,
     };
-    solve_and_store(
+    find_and_store(
         alloc,
         output_name.as_str(),
-        goals,
-        limit,
+        order,
         input.as_slice(),
         folder,
         watch,
@@ -164,23 +176,8 @@ fn run_order<F: Folder>(
     ensures unasked { IsUnasked order.now.make (F.faults folder.old) (F.faults folder.new) (F.misses folder.old) (F.misses folder.new) }
 {
     match order.make {
-        Some(side) => run_made(
-            alloc,
-            side,
-            order.project.as_str(),
-            &order.goals,
-            order.limit,
-            folder,
-            watch,
-        ),
-        None => run_loaded(
-            alloc,
-            order.project.as_str(),
-            &order.goals,
-            order.limit,
-            folder,
-            watch,
-        ),
+        Some(side) => run_made(alloc, side, order, folder, watch),
+        None => run_loaded(alloc, order, folder, watch),
     }
 }
 
@@ -226,7 +223,8 @@ fn run_words<F: Folder>(
     }
 }
 
-/// One run of the program: reads `<project>.in`, solves it, stores `<project>.out`, and writes the status line to the console.
+/// One run of the program: reads `<project>.in`, solves it, stores `<project>.out`, and writes the status line to the console. A
+/// conversion stores the canonical text of the file as `<project>.conv` and solves nothing.
 ///
 /// Where the words have a file made, that file is taken in the place of `<project>.in`, and after Done comes its summary line.
 ///
@@ -244,8 +242,9 @@ pub fn run<F: Folder, S: Sink>(
     // degree 1, the vertices, the extreme rays, the support hyperplanes and equations, a cover, and each asked vector with its parts or
     // the first constraint that it breaks; and the watch was told all stages of the file's system in the mode of file and words. A file
     // with a line, with an element of the Hilbert basis whose degree is 0 or less, or with more irreducible elements than the limit never
-    // gives Done. Each refusal has its cause, and leaves every file as it was; only WriteFault leaves what stands under the output's name
-    // open.
+    // gives Done. At Converted, which comes in conversions and in no other run, the stored text is the canonical text of the input's file;
+    // a conversion tells the watch nothing. Each refusal has its cause, and leaves every file as it was; only WriteFault leaves what
+    // stands under the output's name open.
     ensures outcome { BothTold (F.files folder.old) (F.files folder.new) (Explains (bytes_of_each words.now) (seen watch.old) (seen watch.new) (F.faults folder.old) (F.faults folder.new) result) }
 
     // Words that order nothing are refused, and no others.

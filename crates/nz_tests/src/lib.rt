@@ -8,6 +8,8 @@
 #[cfg(test)]
 mod broken_tests;
 #[cfg(test)]
+mod convert_tests;
+#[cfg(test)]
 mod make_tests;
 #[cfg(test)]
 mod mode_tests;

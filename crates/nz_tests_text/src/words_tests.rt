@@ -5,7 +5,7 @@ use std::test::Fail;
 
 // Words with `|` between them, and their order as text: project, limit, whether stages are printed, after how many the run stops, the
 // side of a made file where there is one, goals.
-const CASES: [(&str, &str); 58] = [
+const CASES: [(&str, &str); 63] = [
     ("", "usage"),
     ("p", "p 100000 false None"),
     ("p|q", "usage"),
@@ -25,6 +25,11 @@ const CASES: [(&str, &str); 58] = [
         "p 100000 false None HilbertBasis PrimalMode",
     ),
     ("--Verbose|--Verbose|p", "usage"),
+    ("--Convert|p", "p 100000 false None convert"),
+    ("p.in|--Convert|--Limit=8", "p 8 false None convert"),
+    ("--Convert|--Convert|p", "usage"),
+    ("--Convert=1|p", "usage"),
+    ("--Conv|p", "usage"),
     ("-x|p", "usage"),
     ("--Make|0|p", "usage"),
     ("--Make|1|p", "p 100000 false None made 1"),
@@ -92,6 +97,9 @@ fn shown(alloc: Global, order: &RunOrder) -> Result<String, Fail> {
     match order.make {
         Some(side) => text = format!(in alloc; "{text} made {side}")?,
         None => {}
+    }
+    if order.convert {
+        text = format!(in alloc; "{text} convert")?;
     }
     for place in 0..order.goals.len() {
         let goal = order.goals.at(place);

@@ -5,9 +5,9 @@ use Rattle.nz_vec.specs.Texts.{Text}
 use Rattle.nz_input.specs.declared.kind.Goal.{Goal}
 use Rattle.nz_input.specs.declared.kind.Goal.TheVariants.{HilbertBasis, ExtremeRays, SupportHyperplanes, Deg1Elements, ModuleGenerators, Triangulation, DualMode, PrimalMode}
 use Rattle.nz_input.specs.Words.{goal_word}
-use Rattle.nz_words.specs.Parts.{Part, given, flag_word, setting_word, Verbose, Limit, Stages, Make, AreRead, NoneTwice}
+use Rattle.nz_words.specs.Parts.{Part, given, flag_word, setting_word, Verbose, Convert, Limit, Stages, Make, AreRead, NoneTwice}
 
--- an order: the project, the goals, the limit of the lists, whether each stage is printed, after how many the run stops, and the side of the file that is made in the place of an input
+-- an order: the project, the goals, the limit of the lists, whether each stage is printed, after how many the run stops, the side of the file that is made in the place of an input, and whether it is converted and not solved
 pub record OrderData : Type 0 where
   pub project : Text
   pub goals : List Goal
@@ -15,6 +15,7 @@ pub record OrderData : Type 0 where
   pub verbose : Bool
   pub stages : Option ℕ
   pub make : Option ℕ
+  pub convert : Bool
 
 -- what the words give, before it is judged
 pub record GivenData : Type 0 where
@@ -25,6 +26,7 @@ pub record GivenData : Type 0 where
   pub verbose : Bool
   pub stages : Option Text
   pub make : Option Text
+  pub convert : Bool
 
 -- all goals, in the order in which an order names them
 abbrev pub all_goals : List Goal
@@ -40,6 +42,7 @@ given_by parts = record {
   verbose = is_some (given (flag_word Verbose) parts);
   stages = given (setting_word Stages) parts;
   make = given (setting_word Make) parts;
+  convert = is_some (given (flag_word Convert) parts);
 }
 
 -- ---- the project
@@ -109,6 +112,7 @@ pub record IsOrderOf (data_given : GivenData) (order : OrderData) : Type 0 where
   pub verbose : order.verbose ≡ data_given.verbose
   pub stages : AreStages data_given.stages order.stages
   pub make : IsSide data_given.make order.make
+  pub convert : order.convert ≡ data_given.convert
 
 -- the words order this
 pub record IsOrder (words : List Text) (order : OrderData) : Type 0 where

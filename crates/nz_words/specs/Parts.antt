@@ -11,10 +11,11 @@ use Rattle.nz_input.specs.Words.{goal_word}
 abbrev pub bytes_of_each : List (String Global) → List Text
 bytes_of_each words = map (λ (word : String Global). string_bytes word) words
 
--- a flag: a goal, or that each stage is printed
+-- a flag: a goal, that each stage is printed, or that the input is converted
 pub data Flag : Type 0 where
   OfGoal : Goal → Flag
   Verbose : Flag
+  Convert : Flag
 
 -- an option with a value
 pub data Setting : Type 0 where
@@ -32,6 +33,7 @@ pub data Part : Type 0 where
 abbrev pub flag_word : Flag → Text
 flag_word (OfGoal g) = goal_word g
 flag_word Verbose = codes "Verbose"
+flag_word Convert = codes "Convert"
 
 -- the word of an option, behind its two hyphens
 abbrev pub setting_word : Setting → Text

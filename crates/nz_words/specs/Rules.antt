@@ -9,7 +9,7 @@ use Rattle.nz_vec.specs.Texts.{Text}
 use Rattle.nz_input.specs.declared.kind.Goal.{Goal}
 use Rattle.nz_input.specs.declared.kind.Goal.TheVariants.{DualMode, PrimalMode}
 use Rattle.nz_input.specs.Words.{goal_word}
-use Rattle.nz_words.specs.Parts.{Flag, flag_word, Verbose, setting_word, Limit, Stages, Make}
+use Rattle.nz_words.specs.Parts.{Flag, flag_word, Verbose, Convert, setting_word, Limit, Stages, Make}
 use Rattle.nz_words.specs.Orders.{GivenData, all_goals}
 
 -- a flag of the command
@@ -36,6 +36,7 @@ all_rules =
     ∷ flag_rule (codes "DualMode")
     ∷ flag_rule (codes "PrimalMode")
     ∷ flag_rule (codes "Verbose")
+    ∷ flag_rule (codes "Convert")
     ∷ setting_rule (codes "Limit")
     ∷ setting_rule (codes "Stages")
     ∷ setting_rule (codes "Make")
@@ -63,6 +64,7 @@ given_in rows = record {
   verbose = is_on (flag_word Verbose) rows;
   stages = first_of (setting_word Stages) rows;
   make = first_of (setting_word Make) rows;
+  convert = is_on (flag_word Convert) rows;
 }
 
 -- the flag is true or false

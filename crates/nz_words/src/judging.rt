@@ -111,6 +111,7 @@ pub(crate) fn order_of(alloc: Global, given: Given<'_>) -> Result<RunOrder, Word
             verbose: given.verbose,
             stages,
             make,
+            convert: given.convert,
         }),
         Err(_) => Err(WordsRefusal::NoMemory),
     }

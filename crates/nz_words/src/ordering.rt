@@ -34,6 +34,8 @@ pub struct RunOrder {
     pub stages: Option<u64>,
     /// The side of the file that is made in the place of an input, from 1 to 150, where one is to be made.
     pub make: Option<u32>,
+    /// Whether the input's file is only written again, as its canonical text, and not solved.
+    pub convert: bool,
 }
 
 impl Model for RunOrder {
@@ -48,6 +50,7 @@ impl Model for RunOrder {
       verbose = o.verbose;
       stages = o.stages;
       make = o.make;
+      convert = o.convert;
     } };
 }
 

@@ -22,6 +22,7 @@ pub(crate) struct Given<'a> {
     pub verbose: bool,
     pub stages: Option<&'a str>,
     pub make: Option<&'a str>,
+    pub convert: bool,
 }
 
 impl<'a> Model for Given<'a> {
@@ -38,6 +39,7 @@ impl<'a> Model for Given<'a> {
       verbose = g.verbose;
       stages = option_map (λ text. text.now) g.stages;
       make = option_map (λ text. text.now) g.make;
+      convert = g.convert;
     } };
 }
 
@@ -123,5 +125,6 @@ pub(crate) fn all_given<'a>(alloc: Global, matches: &ArgMatches<'a>) -> Result<G
         verbose: flag(matches, "Verbose"),
         stages: value(matches, "Stages"),
         make: value(matches, "Make"),
+        convert: flag(matches, "Convert"),
     })
 }

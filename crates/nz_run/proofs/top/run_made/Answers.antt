@@ -11,4 +11,4 @@ returns-in-Err-made_text-clause-watch g c = ([], none_told _)
 
 pub returns-clause-outcome : goal.returns-clause-outcome
 returns-clause-outcome g c =
-    made_and_stored c.args.side c.args.project.now c.args.goals.now c.args.limit _ _ _ _ _ _ c.solve_and_store.result _ _ (c.as_slice.ensures ∙ c.in-Ok-made_text.ensures) (c.as_str.ensures.value ∙ c.in-Ok.ensures) c.solve_and_store.ensures.outcome
+    made_and_stored c.args.side c.args.order.now _ _ _ _ _ _ c.find_and_store.result _ _ c.requires.made (c.as_slice.ensures ∙ c.in-Ok-made_text.ensures) (c.as_str.ensures.value ∙ c.in-Ok.ensures) c.find_and_store.ensures.outcome

@@ -1,0 +1,48 @@
+//! The kinds of runs. What they share stands in the modules `top` and `finding`; each finds its text in a module of its own.
+ghost use Rattle.std.specs.Prelude.{◌≡◌};
+ghost use Rattle.nz_run.specs.Kinds.{kind_of, ending_of, stored_status};
+
+use crate::Status;
+use nz_words::RunOrder;
+
+/// What a run does with the file that it reads.
+#[derive(Clone, Copy, Drop)]
+pub enum RunKind {
+    /// The file's system is solved, and what is asked of it is stored.
+    Plain,
+    /// The canonical text of the file is stored.
+    Convert,
+}
+
+/// The kind of the run that is ordered.
+pub(crate) fn kind_ordered(order: &RunOrder) -> RunKind
+    ensures { result ≡ kind_of order.now }
+{
+    if order.convert {
+        RunKind::Convert
+    } else {
+        RunKind::Plain
+    }
+}
+
+impl RunKind {
+    /// How the name of the file ends that a run of this kind stores.
+    pub(crate) fn ending(self) -> &'static str
+        ensures { result.now ≡ ending_of self }
+    {
+        match self {
+            RunKind::Plain => ".out",
+            RunKind::Convert => ".conv",
+        }
+    }
+
+    /// The status of a run of this kind whose file is stored.
+    pub(crate) fn status_when_stored(self) -> Status
+        ensures { result ≡ stored_status self }
+    {
+        match self {
+            RunKind::Plain => Status::Done,
+            RunKind::Convert => Status::Converted,
+        }
+    }
+}
