@@ -9,3 +9,4 @@ pub mod Numbers
 pub mod Rounds
 pub mod Terms
 pub mod Lists
+pub mod Takings

@@ -1,12 +1,13 @@
 // A base of the group that rows generate, in echelon form.
-ghost use Rattle.std.specs.Prelude.{◌≡◌, ◌+◌, ◌<◌, List, ◌++◌, length, ℤ, IfOk, MatchResult};
+ghost use Rattle.std.specs.Prelude.{◌≡◌, ◌+◌, ◌<◌, List, ◌++◌, length, ℤ, pos, IfOk, MatchOption, MatchResult};
 ghost use Rattle.std.specs.List.{AllByRecursion as Each, AllZip};
-ghost use Rattle.nz_spec.specs.Vectors.{Vector, HasWidth};
+ghost use Rattle.nz_spec.specs.Vectors.{Vector, dot, HasWidth};
 ghost use Rattle.nz_sweep.specs.Clearing.{Valued as ValuedVector, values_of, vectors_of, IsPivot, AreRounds, IsCleared};
 ghost use Rattle.nz_sweep.specs.Duals.{AreDual};
 ghost use Rattle.nz_sweep.specs.Generating.{AreSetApart};
 ghost use Rattle.nz_sweep.specs.GroupConstraints.{IsDualCoordinate};
 ghost use Rattle.nz_sweep.specs.Numbers.{SomeNumberLarge, IsOfValued, IsColumnNumber, IsGeneratingNumber};
+ghost use Rattle.nz_sweep.specs.Takings.{IsTakenAt, IsTakenNumber};
 
 use crate::bottom::{dual_coordinates, leading_columns};
 use crate::clearing::reduced_all;
@@ -22,6 +23,14 @@ struct ClearedRows<T: Scalar> {
     place: usize,
     own: Valued<T>,
     others: Vec<Valued<T>>,
+}
+
+/// What clearing at a form leaves: the vector with a value other than 0, and the others.
+#[derive(Drop)]
+pub struct Taken<T: Scalar> {
+    pub own: Row<T>,
+    pub value: T,
+    pub others: Vec<Row<T>>,
 }
 
 // The rows set apart so far, and those left.
@@ -166,5 +175,41 @@ fn clear_rows<T: Scalar>(
             None => unreachable!(),
         };
         list = others;
+    }
+}
+
+/// Clears the vectors at the form, as the cuts do, where no coordinates are kept, and takes out the
+/// one that is left with a value. None exactly where the form is 0 at all. Range comes only where the
+/// sum of the sizes of the products of the form and a vector, or at a moment of clearing an entry or
+/// a value of a vector, is above `HALF`.
+pub fn take_out<T: Scalar>(
+    alloc: Global,
+    form: &Row<T>,
+    vectors: &[Row<T>],
+) -> Result<Option<Taken<T>>, Num>
+    requires { Each (HasWidth (length form.now)) vectors.now }
+    ensures { MatchResult result (λ o. MatchOption o (Each (λ v. dot form.now v ≡ pos 0) vectors.now) (λ t. IsTakenAt form.now vectors.now t.own (T.integer t.value) t.others.items)) (λ e. e ≡ Num.Range → SomeNumberLarge T.HALF (IsTakenNumber form.now vectors.now)) }
+{
+    let list = match with_values(alloc, vectors, form) {
+        Ok(list) => list,
+        Err(refusal) => return Err(refusal),
+    };
+    let place = match least(list.as_slice()) {
+        Some(place) => place,
+        None => return Ok(None),
+    };
+    let cleared = match clear_rows(alloc, form.len(), list, place) {
+        Ok(cleared) => cleared,
+        Err(refusal) => return Err(refusal),
+    };
+    let ClearedRows { own, others, .. } = cleared;
+    let Valued { row, value } = own;
+    match rows(alloc, others) {
+        Ok(others) => Ok(Some(Taken {
+            own: row,
+            value,
+            others,
+        })),
+        Err(refusal) => Err(refusal),
     }
 }

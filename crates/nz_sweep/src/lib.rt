@@ -21,4 +21,5 @@ mod terms;
 mod valued;
 
 pub use basis::Basis;
+pub use generating::{Taken, take_out};
 pub use lists::{all_pulled, all_vectors};
