@@ -49,6 +49,7 @@ rule_name rule.Sign = codes "Sign"
 rule_name rule.Denominator = codes "Denominator"
 rule_name rule.Repeated = codes "Repeated"
 rule_name rule.Mixed = codes "Mixed"
+rule_name rule.Exponent = codes "Exponent"
 rule_name rule.NoGrading = codes "NoGrading"
 rule_name rule.NoLevel = codes "NoLevel"
 

@@ -41,6 +41,7 @@ fn rule_name(fault: MeaningFault) -> &'static [u8]
         MeaningFault::Denominator => b"Denominator".as_slice(),
         MeaningFault::Repeated => b"Repeated".as_slice(),
         MeaningFault::Mixed => b"Mixed".as_slice(),
+        MeaningFault::Exponent => b"Exponent".as_slice(),
         MeaningFault::NoGrading => b"NoGrading".as_slice(),
         MeaningFault::NoLevel => b"NoLevel".as_slice(),
     }

@@ -254,6 +254,7 @@ contributions-fit level d kind.ConeAndLattice row w v m = (extended-width level 
 contributions-fit level d kind.Vertices row w v m = (leveled-width level d (length row) (v refl) w, tt)
 contributions-fit level d kind.Grading row w v m = ((extended-width level d row w, extended-zero level row), tt)
 contributions-fit level d kind.Ask row w v m = (w, tt)
+contributions-fit level d kind.MonomialIdeal row w v m = tt
 
 or-left : (a b : Bool) → a ≡ true → IsTrue (a || b)
 or-left true b e = refl

@@ -164,6 +164,7 @@ columns-some kind.InhomCongruences d l = omega arith
 columns-some kind.Vertices d l = omega arith
 columns-some kind.Grading d l = omega arith
 columns-some kind.Ask d l = omega arith
+columns-some kind.MonomialIdeal d l = omega arith
 
 -- no item of a file has more than 1024 rows
 pub file-few : (file : FileData) → IsFile file → Each (λ (item : ItemData). length item.rows ≤ 1024) file.items

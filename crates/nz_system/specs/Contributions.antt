@@ -4,7 +4,7 @@ use Rattle.std.specs.List.{flat_map}
 use Rattle.nz_spec.specs.Vectors.{Vector, zero_vector, entry}
 use Rattle.nz_input.specs.Files.{ItemData}
 use Rattle.nz_input.specs.declared.kind.Kind.{Kind}
-use Rattle.nz_input.specs.declared.kind.Kind.TheVariants.{Cone, ConeAndLattice, Inequalities, Equations, Congruences, Signs, StrictSigns, StrictInequalities, InhomInequalities, InhomEquations, InhomCongruences, Vertices, Grading, Ask}
+use Rattle.nz_input.specs.declared.kind.Kind.TheVariants.{Cone, ConeAndLattice, Inequalities, Equations, Congruences, Signs, StrictSigns, StrictInequalities, InhomInequalities, InhomEquations, InhomCongruences, Vertices, Grading, Ask, MonomialIdeal}
 use Rattle.nz_system.specs.declared.contribution.Contribution.{Contribution}
 use Rattle.nz_system.specs.declared.contribution.Contribution.TheVariants.{Zero, Multiple, NotNegative, Generator, LatticeGenerator, Degree, Asked}
 
@@ -39,7 +39,7 @@ abbrev pub sign_forms : Vector → Vector → ℕ → List Vector
 sign_forms row behind zero = []
 sign_forms row behind (suc i) = sign_forms row behind i ++ sign_form (length row) behind i (entry row i)
 
--- what a row gives, where the file has a level or not
+-- what a row gives, where the file has a level or not; a file with `monomial_ideal` has its meaning by another one, and a row of it gives nothing here
 abbrev pub contributions : Bool → Kind → Vector → List Contribution
 contributions level Equations row = Zero (extended level row) ∷ []
 contributions level Inequalities row = NotNegative (extended level row) ∷ []
@@ -55,6 +55,7 @@ contributions level ConeAndLattice row = Generator (extended level row) ∷ Latt
 contributions level Vertices row = Generator row ∷ []
 contributions level Grading row = Degree (extended level row) ∷ []
 contributions level Ask row = Asked row ∷ []
+contributions level MonomialIdeal row = []
 
 -- what the items give, in file order, rows in order
 abbrev pub given : Bool → List ItemData → List Contribution

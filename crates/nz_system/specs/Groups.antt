@@ -4,7 +4,7 @@ use Rattle.nz_input.specs.Files.{ItemData}
 use Rattle.nz_input.specs.declared.kind.Kind.{Kind}
 use Rattle.nz_input.specs.declared.kind.Kind.TheVariants as kind
 use Rattle.nz_system.specs.declared.groups.Group.{Group}
-use Rattle.nz_system.specs.declared.groups.Group.TheVariants.{Leveled, Generating, Bounding, Cone, ConeAndLattice, Vertices, Signs, StrictSigns, Grading, Ask}
+use Rattle.nz_system.specs.declared.groups.Group.TheVariants.{Leveled, Generating, Bounding, Cone, ConeAndLattice, Vertices, Signs, StrictSigns, Grading, Ask, MonomialIdeal}
 
 -- one such item makes the file inhomogeneous
 abbrev pub is_leveled : Kind → Bool
@@ -14,6 +14,7 @@ is_leveled kind.InhomInequalities = true
 is_leveled kind.InhomEquations = true
 is_leveled kind.InhomCongruences = true
 is_leveled kind.Vertices = true
+is_leveled kind.MonomialIdeal = true
 is_leveled _ = false
 
 -- a row is a generator
@@ -47,6 +48,7 @@ includes Signs kind.Signs = true
 includes StrictSigns kind.StrictSigns = true
 includes Grading kind.Grading = true
 includes Ask kind.Ask = true
+includes MonomialIdeal kind.MonomialIdeal = true
 includes _ _ = false
 
 -- some item is of the group, also one with no rows

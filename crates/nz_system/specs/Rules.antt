@@ -73,9 +73,10 @@ is_repeated before _ = false
 abbrev pub forbids_lattice : List ItemData → Bool
 forbids_lattice items = occurs group.Leveled items || occurs group.Cone items
 
--- a `cone_and_lattice` that may not stand
+-- an item that may not stand: `cone_and_lattice` where it is forbidden, and `monomial_ideal`, whose files have a meaning of their own
 abbrev pub is_mixed : Bool → Kind → Bool
 is_mixed forbidden kind.ConeAndLattice = forbidden
+is_mixed forbidden kind.MonomialIdeal = true
 is_mixed forbidden _ = false
 
 -- the faults of an item as a whole

@@ -84,7 +84,7 @@ fn either_names(goal: Goal, first: &Goals, second: &Goals) -> bool
 }
 
 /// The goals that two lists name together.
-pub(crate) fn goal_set(first: &Goals, second: &Goals) -> GoalSet
+pub fn goal_set(first: &Goals, second: &Goals) -> GoalSet
     ensures { result ≡ goal_set (first.now ++ second.now) }
 {
     let hilbert = either_names(Goal::HilbertBasis, first, second);

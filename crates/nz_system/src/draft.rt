@@ -136,6 +136,7 @@ impl Draft {
                 alloc, row, len, level_zero,
             )?)),
             Kind::Ask => self.take(Contribution::Asked(row.widen()?)),
+            Kind::MonomialIdeal => Ok(()),
         }
     }
 

@@ -20,6 +20,7 @@ pub enum Group {
     StrictSigns,
     Grading,
     Ask,
+    MonomialIdeal,
 }
 
 fn is_leveled(kind: Kind) -> bool
@@ -31,7 +32,8 @@ fn is_leveled(kind: Kind) -> bool
         | Kind::InhomInequalities
         | Kind::InhomEquations
         | Kind::InhomCongruences
-        | Kind::Vertices => true,
+        | Kind::Vertices
+        | Kind::MonomialIdeal => true,
         _ => false,
     }
 }
@@ -98,6 +100,10 @@ impl Group {
                 Kind::Ask => true,
                 _ => false,
             },
+            Group::MonomialIdeal => match kind {
+                Kind::MonomialIdeal => true,
+                _ => false,
+            },
         }
     }
 }
@@ -109,7 +115,7 @@ fn found_by(found: bool, group: Group, kind: Kind) -> bool
 }
 
 /// Whether an item of the group stands among the first items.
-pub(crate) fn occurs(group: Group, items: &Items, count: usize) -> bool
+pub fn occurs(group: Group, items: &Items, count: usize) -> bool
     requires { count ≤ length items.now }
     ensures { result ≡ occurs group (take count items.now) }
 {
@@ -121,7 +127,7 @@ pub(crate) fn occurs(group: Group, items: &Items, count: usize) -> bool
 }
 
 /// Whether an item of the group stands among all.
-pub(crate) fn stands(group: Group, items: &Items) -> bool
+pub fn stands(group: Group, items: &Items) -> bool
     ensures { result ≡ occurs group items.now }
 {
     occurs(group, items, items.len())

@@ -11,9 +11,12 @@ pub enum MeaningFault {
     Sign,
     /// The last entry of a vertex is below 1.
     Denominator,
+    /// An exponent of a monomial is below 0.
+    Exponent,
     /// A second item of a kind that may stand once: `signs`, `strict_signs` or `grading`.
     Repeated,
-    /// `cone_and_lattice` beside `cone`, or in an inhomogeneous file.
+    /// `cone_and_lattice` beside `cone`, or in an inhomogeneous file; `monomial_ideal` and an item of
+    /// another kind in one file.
     Mixed,
     /// Elements of degree 1 are asked, and no grading is given.
     NoGrading,

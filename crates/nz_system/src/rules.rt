@@ -122,6 +122,7 @@ fn is_mixed(forbidden: bool, kind: Kind) -> bool
 {
     match kind {
         Kind::ConeAndLattice => forbidden,
+        Kind::MonomialIdeal => true,
         _ => false,
     }
 }

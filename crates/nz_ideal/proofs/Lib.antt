@@ -1,0 +1,4 @@
+pub mod Building
+pub mod Ruling
+pub mod Meeting
+pub mod Closing

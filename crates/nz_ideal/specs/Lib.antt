@@ -1,0 +1,4 @@
+pub mod IdealFiles
+pub mod IdealRules
+pub mod Meanings
+pub mod Laws
