@@ -13,11 +13,11 @@ from pathlib import Path
 
 EXAMPLES = Path(__file__).resolve().parent
 PICTURES = EXAMPLES.parent / "docs" / "pictures"
-NAMES = ["between", "cut", "first", "inside", "lattice", "polyhedron", "signs", "third", "triangle"]
+NAMES = ["between", "cut", "first", "inside", "lattice", "polyhedron", "signs", "slanted_ideal", "third", "triangle"]
 STEP = 40
 # How many more entries than the dimension a row of an item has.
 MATRICES = {"cone": 0, "cone_and_lattice": 0, "vertices": 1, "inequalities": 0, "congruences": 1, "strict_inequalities": 0,
-            "inhom_inequalities": 1, "ask": 0}
+            "inhom_inequalities": 1, "ask": 0, "monomial_ideal": 0}
 VECTORS = ["signs", "strict_signs", "grading"]
 BOUNDING = ["cone", "cone_and_lattice", "vertices", "inequalities", "signs", "strict_signs", "strict_inequalities", "inhom_inequalities"]
 
@@ -39,7 +39,12 @@ def items_of(text):
         numbers = [int(number) for number in words[place:place + count * width]]
         items.setdefault(word, []).extend(numbers[row * width:(row + 1) * width] for row in range(count))
         place += count * width
-    return items
+    return items if "monomial_ideal" not in items else closure_of(items["monomial_ideal"])
+
+
+def closure_of(exponents):
+    """The items of the polyhedron whose whole points are the integral closure: the monomials, and both directions."""
+    return {"vertices": [[*row, 1] for row in exponents], "cone": [[1, 0], [0, 1]]}
 
 
 def dot(form, vector):

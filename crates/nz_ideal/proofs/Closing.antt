@@ -26,7 +26,7 @@ use Rattle.nz_system.specs.Rules.{refusals as plain_refusals}
 use Rattle.nz_system.proofs.Kept.{kept}
 use Rattle.nz_ideal.specs.IdealFiles.{has_ideal, exponents, stays, staying, vertex_item, ideal_file}
 use Rattle.nz_ideal.specs.IdealRules.{items_refusals, goal_faults, ideal_refusals}
-use Rattle.nz_ideal.specs.Meanings.{by_ideal, system_of, HasMeaning}
+use Rattle.nz_ideal.specs.Meanings.{by_ideal, file_of, system_of, HasMeaning}
 use Rattle.nz_ideal.specs.Laws.{IsRaisedGenerator}
 use Rattle.nz_ideal.proofs.Meeting.{exponents-wide, ideal-kept, ideal-clear, empty-front}
 
@@ -117,6 +117,24 @@ system-kept file f t words h =
     let clear : ideal_refusals file (goals_of file words) ≡ [] = sym (ap (λ (b : Bool). by_ideal b (ideal_refusals file (goals_of file words)) (plain_refusals file (goals_of file words))) t) ∙ h in
     let is = kept (ideal_file file) (goals_of file words) Primal (ideal-kept file f (empty-front (items_refusals [] file.items) (map (Meaning 0 0) (goal_faults file.items (goals_of file words))) clear)) (ideal-clear file (goals_of file words) f clear) (λ k. refl) in
     subst (λ (b : Bool). IsSystem (plain_system (by_ideal b (ideal_file file) file))) (sym t) is.system
+
+-- the system of a file that has a meaning is one, with monomials and without
+pub file-system : (file : FileData) (words : List Goal) → IsFile file → HasMeaning file words → IsSystem (system_of file)
+file-system file words f h = split (has_ideal file) refl
+  where
+    split : (b : Bool) → has_ideal file ≡ b → IsSystem (system_of file)
+    split true t = system-kept file f t words h
+    split false t =
+        let clear : plain_refusals file (goals_of file words) ≡ [] = sym (ap (λ (b : Bool). by_ideal b (ideal_refusals file (goals_of file words)) (plain_refusals file (goals_of file words))) t) ∙ h in
+        subst (λ (b : Bool). IsSystem (plain_system (by_ideal b (ideal_file file) file))) (sym t) (kept file (goals_of file words) Primal f clear (λ k. refl)).system
+
+-- an ideal file asks what its file asks
+pub same-goals : (file : FileData) (words : List Goal) → goals_of (file_of file) words ≡ goals_of file words
+same-goals file words = split (has_ideal file)
+  where
+    split : (b : Bool) → goals_of (by_ideal b (ideal_file file) file) words ≡ goals_of file words
+    split true = refl
+    split false = refl
 
 -- the module generators, each with its monomial
 pub raised : (file : FileData) → IsFile file → IsTrue (has_ideal file) → (v : Vector) → IsModuleGenerator (IsMember (system_of file)) v ↔ IsRaisedGenerator file v

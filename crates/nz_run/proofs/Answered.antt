@@ -14,7 +14,7 @@ use Rattle.nz_input.specs.Refusals.{IsRefusedAt}
 use Rattle.nz_input.specs.declared.refusal.Fault.{Fault}
 use Rattle.nz_input.specs.declared.kind.Mode.{Mode}
 use Rattle.nz_input.specs.declared.kind.Mode.TheVariants.{Primal, Dual}
-use Rattle.nz_system.specs.Meaning.{meaning}
+use Rattle.nz_ideal.specs.Meanings.{meaning}
 use Rattle.nz_system.specs.Rules.{first}
 use Rattle.nz_system.specs.declared.refusal.SystemRefusal.{SystemRefusal}
 use Rattle.nz_frame.specs.Elements.{IsGraded}
@@ -44,7 +44,7 @@ some_once : {a b : Text} → Some a ≡ Some b → a ≡ b
 some_once e = cc
 
 -- an order has one input
-same_input : (side : Option ℕ) (project : Text) (files : Files) (a b : Text) → IsInput side project files a → IsInput side project files b → a ≡ b
+pub same_input : (side : Option ℕ) (project : Text) (files : Files) (a b : Text) → IsInput side project files a → IsInput side project files b → a ≡ b
 same_input None project files a b p q = p.cut ∙ ap (take (most + 1)) (some_once (sym p.there ∙ q.there)) ∙ sym q.cut
 same_input (Some n) project files a b p q = p ∙ sym q
 

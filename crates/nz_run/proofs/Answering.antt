@@ -3,13 +3,13 @@ use Rattle.std.proofs.Common.{◌≡◌, ℕ, List, inr, sym, subst}
 use Rattle.nz_vec.specs.Texts.{Text}
 use Rattle.nz_input.specs.Files.{FileData}
 use Rattle.nz_input.specs.declared.kind.Goal.{Goal}
-use Rattle.nz_system.specs.Meaning.{SystemData, meaning}
+use Rattle.nz_system.specs.Meaning.{SystemData}
 use Rattle.nz_watch.specs.Telling.{Watched, HasPassedAll}
 use Rattle.nz_solve.specs.Solutions.{AreToldOf, IsSolveRefusal}
 use Rattle.nz_solve.specs.declared.refusal.SolveRefusal.{SolveRefusal}
 use Rattle.nz_solve.specs.declared.refusal.SolveRefusal.TheVariants as solve
 use Rattle.nz_run.specs.declared.status.Status.{Status}
-use Rattle.nz_run.specs.FileSystems.{HasMeaning}
+use Rattle.nz_ideal.specs.Meanings.{meaning, HasMeaning}
 use Rattle.nz_run.specs.Solving.{IsAnswered, IsFileSolved, IsUnsolved, IsSolveCause, status_of}
 
 -- the system is that of the file, so what is answered of it is answered of the file

@@ -6,7 +6,7 @@ use Rattle.nz_watch.specs.Watching.{Pair}
 use Rattle.nz_watch.specs.Telling.{Watched, HasPassedAll}
 use Rattle.nz_watch.proofs.TellingLemmas.{none_told}
 use Rattle.nz_input.specs.Files.{FileData}
-use Rattle.nz_system.specs.Meaning.{system_of, meaning}
+use Rattle.nz_ideal.specs.Meanings.{system_of, meaning}
 use Rattle.nz_input.specs.declared.kind.Mode.{Mode}
 use Rattle.nz_input.specs.declared.kind.Mode.TheVariants.{Primal, Dual}
 use Rattle.nz_solve.specs.Solutions.{IsCrowd, WasToldSome}

@@ -5,3 +5,4 @@ pub mod Pieces
 pub mod Printing
 pub mod Answering
 mod ModeTexts
+mod ClosureTexts

@@ -1,31 +1,30 @@
 -- A file has one text, whatever the mode.
 use Rattle.nz_vec.specs.Texts.{Text}
-use Rattle.std.proofs.Common.{List, refl, sym, ap, ◌∙◌, subst}
+use Rattle.std.proofs.Common.{◌≡◌, List, refl, sym, ap, ◌∙◌, subst}
 use Rattle.nz_input.specs.Files.{FileData, IsFile}
 use Rattle.nz_input.specs.declared.kind.Goal.{Goal}
-use Rattle.nz_input.specs.declared.kind.Mode.TheVariants.{Primal}
-use Rattle.nz_spec.specs.Systems.{IsSystem}
 use Rattle.nz_system.specs.declared.asked.GoalSet.{GoalSet}
 use Rattle.nz_system.specs.Asked.{goals_of}
-use Rattle.nz_system.specs.Meaning.{meaning, system_of}
-use Rattle.nz_system.proofs.Kept.{kept}
+use Rattle.nz_ideal.proofs.Closing.{file-system, same-goals}
+use Rattle.nz_blocks.specs.Outcomes.{OutcomeData}
 use Rattle.nz_blocks.specs.Output.{text_of}
 use Rattle.nz_solve.specs.Solutions.{IsSolution}
 use Rattle.nz_solve.specs.Laws.{ModesAgree}
-use Rattle.nz_run.specs.FileSystems.{HasMeaning}
+use Rattle.nz_ideal.specs.Meanings.{meaning, system_of, HasMeaning}
 use Rattle.nz_input.specs.Laws.{OneFile, TextsKeep, ReadsBack}
 use Rattle.nz_input.specs.Texts.{IsTextOf}
 use Rattle.nz_run.specs.Laws.{ModesGiveOneText, RunsGiveOneText, ConversionsKeepTheFile, IsTextFor}
 
--- the system of a file that breaks no rule keeps what each system keeps, whatever the mode
-file_system : (file : FileData) (words : List Goal) → IsFile file → HasMeaning file words → IsSystem (system_of file)
-file_system file words is ready = (kept file (goals_of file words) Primal is ready (λ t. refl)).system
+-- the system solved with these goals, in place of its own, which are the same
+with_goals : (file : FileData) (words : List Goal) (g : GoalSet) (o : OutcomeData) → goals_of file words ≡ g → IsSolution (meaning file words) o → IsSolution (record { system = system_of file; goals = g; mode = (meaning file words).mode }) o
+with_goals file words g o e h = subst (λ (x : GoalSet). IsSolution (record { system = system_of file; goals = x; mode = (meaning file words).mode }) o) (same-goals file words ∙ e) h
 
 pub modes_give_one_text : ModesAgree → ModesGiveOneText
 modes_give_one_text agree file words others limit limit2 output output2 is asks first second =
     let goals = goals_of file words in
-    let moved = subst (λ (g : GoalSet). IsSolution (record { system = system_of file; goals = g; mode = (meaning file others).mode }) second.answered.outcome) (sym asks.same) second.answered.solution in
-    let outcomes = agree (system_of file) goals (meaning file words).mode (meaning file others).mode first.answered.outcome second.answered.outcome (file_system file words is first.ready) asks.no_cover first.answered.solution moved in
+    let mine = with_goals file words goals first.answered.outcome refl first.answered.solution in
+    let moved = with_goals file others goals second.answered.outcome (sym asks.same) second.answered.solution in
+    let outcomes = agree (system_of file) goals (meaning file words).mode (meaning file others).mode first.answered.outcome second.answered.outcome (file-system file words is first.ready) asks.no_cover mine moved in
     first.answered.same ∙ ap text_of outcomes ∙ sym second.answered.same
 
 pub runs_give_one_text : ModesGiveOneText → OneFile → TextsKeep → RunsGiveOneText

@@ -9,7 +9,7 @@ use Rattle.nz_input.specs.Texts.{IsTextOf}
 use Rattle.nz_input.specs.declared.kind.Goal.{Goal}
 use Rattle.nz_input.specs.declared.kind.Mode.{Mode}
 use Rattle.nz_input.specs.declared.kind.Mode.TheVariants.{Primal, Dual}
-use Rattle.nz_system.specs.Meaning.{SystemData, meaning}
+use Rattle.nz_system.specs.Meaning.{SystemData}
 use Rattle.nz_frame.specs.Elements.{IsGraded}
 use Rattle.nz_frame.specs.DualCrowds.{IsDualCrowd}
 use Rattle.nz_solve.specs.Solutions.{IsReachAbove, half}
@@ -17,7 +17,7 @@ use Rattle.nz_edge.specs.Folders.{Files}
 use Rattle.nz_watch.specs.Counts.{IsQuiet}
 use Rattle.nz_watch.specs.Telling.{Watched}
 use Rattle.nz_words.specs.Orders.{OrderData, IsOrder}
-use Rattle.nz_run.specs.FileSystems.{HasMeaning}
+use Rattle.nz_ideal.specs.Meanings.{meaning, HasMeaning}
 use Rattle.nz_run.specs.declared.status.Status.{Status}
 use Rattle.nz_run.specs.declared.status.Status.TheVariants.{Done, Converted}
 use Rattle.nz_run.specs.declared.kinds.RunKind.TheVariants.{Plain, Convert}

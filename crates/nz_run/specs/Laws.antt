@@ -5,8 +5,7 @@ use Rattle.nz_input.specs.Files.{FileData, IsFile}
 use Rattle.nz_input.specs.Texts.{IsTextOf}
 use Rattle.nz_input.specs.declared.kind.Goal.{Goal}
 use Rattle.nz_system.specs.Asked.{goals_of}
-use Rattle.nz_system.specs.Meaning.{meaning}
-use Rattle.nz_run.specs.FileSystems.{HasMeaning}
+use Rattle.nz_ideal.specs.Meanings.{meaning, HasMeaning}
 use Rattle.nz_watch.specs.Telling.{Watched}
 use Rattle.nz_run.specs.declared.kinds.RunKind.TheVariants.{Plain, Convert}
 use Rattle.nz_run.specs.Solving.{IsAnswered}

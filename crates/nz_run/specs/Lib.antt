@@ -1,4 +1,3 @@
-pub mod FileSystems
 pub mod Statuses
 pub mod Watches
 pub mod Solving
@@ -7,3 +6,4 @@ pub mod Runs
 pub mod Summaries
 pub mod Completeness
 pub mod Laws
+pub mod Closures

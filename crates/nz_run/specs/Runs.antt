@@ -1,22 +1,14 @@
 -- What a run leaves, status by status.
-use Rattle.std.specs.Prelude.{◌≡◌, ◌⊎◌, ℕ, ◌+◌, ◌<◌, ◌≤◌, Bool, true, false, ◌++◌, codes, List, [], length, take, Option, Some, None, Err, IfSome, IsSome}
+use Rattle.std.specs.Prelude.{◌≡◌, ◌⊎◌, ℕ, ◌+◌, ◌<◌, ◌≤◌, Bool, true, false, ◌++◌, codes, List, length, take, Option, Some, None, IfSome, IsSome}
 use Rattle.nz_vec.specs.Texts.{Text}
 use Rattle.nz_input.specs.Files.{FileData}
 use Rattle.nz_input.specs.declared.kind.Goal.{Goal}
 use Rattle.nz_input.specs.Texts.{IsTextOf}
 use Rattle.nz_input.specs.Refusals.{IsRefusedAt}
-use Rattle.nz_system.specs.Meaning.{SystemData, system_of, meaning, IsMeaning}
-use Rattle.nz_system.specs.declared.refusal.SystemRefusal.TheVariants as refusal
-use Rattle.nz_blocks.specs.Outcomes.{OutcomeData}
-use Rattle.nz_blocks.specs.Output.{text_of}
 use Rattle.nz_edge.specs.Folders.{Files, SameFiles, SameOthers, Stores}
 use Rattle.nz_watch.specs.Counts.{IsQuiet, Rose}
 use Rattle.nz_watch.specs.Watching.{Pair}
-use Rattle.nz_watch.specs.Telling.{Watched, WasTold, HasPassedAll}
-use Rattle.nz_frame.specs.Elements.{IsWithin}
-use Rattle.nz_solve.specs.Solutions.{IsSolution, AreToldOf, IsSolveRefusal}
-use Rattle.nz_solve.specs.declared.refusal.SolveRefusal.{SolveRefusal}
-use Rattle.nz_solve.specs.declared.refusal.SolveRefusal.TheVariants as solve
+use Rattle.nz_watch.specs.Telling.{Watched}
 use Rattle.nz_words.specs.Orders.{OrderData, IsOrder, AreRefused, input_name}
 use Rattle.nz_run.specs.Kinds.{kind_of, ending_of, IsFileFound, IsCauseIn}
 use Rattle.nz_run.specs.Watches.{WasToldNothing}

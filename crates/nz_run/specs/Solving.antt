@@ -3,7 +3,7 @@ use Rattle.std.specs.Prelude.{◌≡◌, ◌⊎◌, ℕ, List, Err}
 use Rattle.nz_vec.specs.Texts.{Text}
 use Rattle.nz_input.specs.Files.{FileData}
 use Rattle.nz_input.specs.declared.kind.Goal.{Goal}
-use Rattle.nz_system.specs.Meaning.{SystemData, system_of, meaning, IsMeaning}
+use Rattle.nz_system.specs.Meaning.{SystemData}
 use Rattle.nz_system.specs.declared.refusal.SystemRefusal.TheVariants as refusal
 use Rattle.nz_blocks.specs.Outcomes.{OutcomeData}
 use Rattle.nz_blocks.specs.Output.{text_of}
@@ -12,7 +12,7 @@ use Rattle.nz_frame.specs.Elements.{IsWithin}
 use Rattle.nz_solve.specs.Solutions.{IsSolution, AreToldOf, IsSolveRefusal}
 use Rattle.nz_solve.specs.declared.refusal.SolveRefusal.{SolveRefusal}
 use Rattle.nz_solve.specs.declared.refusal.SolveRefusal.TheVariants as solve
-use Rattle.nz_run.specs.FileSystems.{HasMeaning}
+use Rattle.nz_ideal.specs.Meanings.{system_of, meaning, HasMeaning, IsMeaningOf}
 use Rattle.nz_run.specs.Watches.{WasToldNothing}
 use Rattle.nz_run.specs.declared.status.Status.{Status}
 use Rattle.nz_run.specs.declared.status.Status.TheVariants.{Meaning, Line, Grade, Range, TooMany, Stopped, NoMemory}
@@ -46,7 +46,7 @@ status_of solve.NoMemory = NoMemory
 
 -- the file is the cause of the status, where the words name these goals; memory may run out before a stage was told, or among the stages
 abbrev pub IsSolveCause : List Goal → (limit : ℕ) → (before now : Watched) → FileData → Status → Type 0
-IsSolveCause goals limit before now file (Meaning i r f) = IsMeaning file goals (Err (refusal.Meaning i r f)) × WasToldNothing before now
+IsSolveCause goals limit before now file (Meaning i r f) = IsMeaningOf file goals (Err (refusal.Meaning i r f)) × WasToldNothing before now
 IsSolveCause goals limit before now file (Line v) = IsUnsolved goals limit before now file (solve.Line v)
 IsSolveCause goals limit before now file (Grade v) = IsUnsolved goals limit before now file (solve.Grade v)
 IsSolveCause goals limit before now file Range = IsUnsolved goals limit before now file solve.Range

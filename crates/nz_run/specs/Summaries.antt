@@ -4,7 +4,7 @@ use Rattle.std.specs.Fmt.{signed_decimal}
 use Rattle.nz_vec.specs.Texts.{Text}
 use Rattle.nz_spec.specs.Vectors.{Vector}
 use Rattle.nz_spec.specs.Elements.{IsHilbertBasis}
-use Rattle.nz_system.specs.Meaning.{system_of}
+use Rattle.nz_ideal.specs.Meanings.{system_of}
 use Rattle.nz_watch.specs.Counts.{IsQuiet}
 use Rattle.nz_blocks.specs.Lines.{line}
 use Rattle.nz_make.specs.Squares.{made_file, sum_of_all}

@@ -1,7 +1,9 @@
 //! What all runs of a file have in common, and which runs are answered.
 ghost use Rattle.nz_run.specs.Completeness.{ValidRunsAreAnswered, ConversionsAreAnswered};
+ghost use Rattle.nz_run.specs.Closures.{ClosuresAreStored};
 ghost use Rattle.nz_run.specs.Laws.{ModesGiveOneText, RunsGiveOneText, ConversionsKeepTheFile};
 
+use nz_ideal::closures_are_answered;
 use nz_input::{texts_have_one_file, texts_keep_limits, written_files_are_read_back};
 use nz_solve::modes_agree;
 use nz_words::words_order_one_thing;
@@ -46,4 +48,14 @@ pub fn conversions_are_answered()
 {
     words_order_one_thing();
     texts_have_one_file();
+}
+
+/// A run that ends with Done on a file with monomials stores the integral closure of their ideal.
+pub fn closures_are_stored()
+    ensures { ClosuresAreStored }
+{
+    words_order_one_thing();
+    texts_have_one_file();
+    texts_keep_limits();
+    closures_are_answered();
 }

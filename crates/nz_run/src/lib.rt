@@ -16,8 +16,8 @@ mod top;
 
 pub use kinds::RunKind;
 pub use laws::{
-    conversions_are_answered, conversions_keep_the_file, modes_give_one_text, runs_give_one_text,
-    valid_runs_are_answered,
+    closures_are_stored, conversions_are_answered, conversions_keep_the_file, modes_give_one_text,
+    runs_give_one_text, valid_runs_are_answered,
 };
 pub use status::Status;
 pub use top::run;

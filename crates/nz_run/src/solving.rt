@@ -6,9 +6,10 @@ ghost use Rattle.nz_run.specs.Solving.{IsAnswered, IsFileSolved, IsSolveCause, s
 
 use crate::Status;
 use nz_blocks::blocks;
+use nz_ideal::meaning_of;
 use nz_input::{File, Goals};
 use nz_solve::{SolveRefusal, solve};
-use nz_system::{System, SystemRefusal, system_of};
+use nz_system::{System, SystemRefusal};
 use nz_vec::Bytes;
 use nz_watch::Watch;
 use std::alloc::Global;
@@ -56,7 +57,7 @@ pub(crate) fn file_solved(
 ) -> Result<Bytes, Status>
     ensures { MatchResult result (IsFileSolved goals.now limit (seen watch.old) (seen watch.new) file.now) (IsSolveCause goals.now limit (seen watch.old) (seen watch.new) file.now) }
 {
-    let system = match system_of(alloc, file, goals) {
+    let system = match meaning_of(alloc, file, goals) {
         Ok(system) => system,
         Err(SystemRefusal::Meaning { item, row, fault }) => {
             return Err(Status::Meaning { item, row, fault });

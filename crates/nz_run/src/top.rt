@@ -8,10 +8,12 @@ ghost use Rattle.nz_make.specs.Squares.{made_file};
 ghost use Rattle.nz_run.specs.Runs.{Explains, ExplainsOrder, Decided, Leaves, CountRose, StoreCount, IsSideOf, IsUnasked, AreUnasked, output_name};
 ghost use Rattle.nz_run.specs.Watches.{WatchSays};
 ghost use Rattle.nz_run.specs.Summaries.{PutsLines};
+ghost use Rattle.nz_run.specs.Closures.{StoresClosures};
 
 use crate::Status;
 use crate::finding::{MOST, found};
 use crate::kinds::kind_ordered;
+use crate::laws::closures_are_stored;
 use crate::status_lines::put_lines;
 use nz_edge::{Folder, Load, Sink, Stored};
 use nz_input::write;
@@ -247,6 +249,10 @@ pub fn run<F: Folder, S: Sink>(
     // stands under the output's name open.
     ensures outcome { BothTold (F.files folder.old) (F.files folder.new) (Explains (bytes_of_each words.now) (seen watch.old) (seen watch.new) (F.faults folder.old) (F.faults folder.new) result) }
 
+    // At Done, where the file has monomials, the module generators that are stored are just the minimal generators of the integral
+    // closure of their ideal, each with 1 added, and the Hilbert basis just the unit vectors.
+    ensures closures { BothTold (F.files folder.old) (F.files folder.new) (StoresClosures (bytes_of_each words.now) result) }
+
     // Words that order nothing are refused, and no others.
     ensures usage { result ≡ Status.Usage → AreRefused (bytes_of_each words.now) }
     ensures usage_always { AreRefused (bytes_of_each words.now) → Decided result Status.Usage }
@@ -266,6 +272,7 @@ pub fn run<F: Folder, S: Sink>(
 {
     let Ended { status, side } = run_words(alloc, words, folder, watch);
     irreducibles_are_points();
+    closures_are_stored();
     let _written = put_lines(console, &status, side);
     status
 }

@@ -10,6 +10,8 @@ mod broken_tests;
 #[cfg(test)]
 mod convert_tests;
 #[cfg(test)]
+mod ideal_tests;
+#[cfg(test)]
 mod make_tests;
 #[cfg(test)]
 mod mode_tests;

@@ -309,6 +309,12 @@ fn meanings(rt: HostRuntime) -> Result<(), Fail> {
             "item 1 row 0: Mixed",
         ),
         (
+            "amb_space 1 cone 1 1 monomial_ideal 1 2",
+            0,
+            [].as_slice(),
+            "item 2 row 0: Mixed",
+        ),
+        (
             "amb_space 1 congruences 2 1 1 1 0 signs 2",
             0,
             [Goal::Deg1Elements].as_slice(),
