@@ -1,1 +1,5 @@
 pub mod Splits
+pub mod UnitLists
+pub mod UnitNumbers
+pub mod UnitCrowds
+pub mod Refusals

@@ -23,10 +23,16 @@ pub data IsSplitBy (lattice : List Vector) : List Vector → List Vector → Lis
   pass : {seen units rest : List Vector} (row : Vector) → IsSplitBy lattice seen units rest → Each (λ u. dot row u ≡ pos 0) units → IsSplitBy lattice (seen ++ row ∷ []) units rest
   apart : {seen units rest us : List Vector} {p q : Vector} {a : ℤ} (row : Vector) → IsSplitBy lattice seen units rest → IsTakenAt row units p a us → IsTurnedBy a p q → IsSplitBy lattice (seen ++ row ∷ []) us (rest ++ q ∷ [])
 
--- where a row meets the vectors not yet set apart: the numbers of clearing them, and the measure of the one that is taken out
+-- the units and the rest of some lattice at these rows
+pub record AreSplitParts (rows units rest : List Vector) : Type 0 where
+  pub lattice : List Vector
+  pub given : AreForLattice lattice rows
+  pub steps : IsSplitBy lattice rows units rest
+
+-- where a row meets the vectors not yet set apart: the numbers of clearing them, and the measure of the one that is taken out, where it is replaced by its opposite
 pub data IsRowNumber (row : Vector) (units : List Vector) : ℤ → Type 0 where
   clearing : {n : ℤ} → IsTakenNumber row units n → IsRowNumber row units n
-  turning : {p : Vector} {a : ℤ} {us : List Vector} → IsTakenAt row units p a us → IsRowNumber row units (pos (measure p))
+  turning : {p : Vector} {a : ℤ} {us : List Vector} → IsTakenAt row units p a us → a <ℤ pos 0 → IsRowNumber row units (pos (measure p))
 
 -- those of each of the rows in turn
 pub record IsSplitNumber (lattice rows : List Vector) (n : ℤ) : Type 0 where

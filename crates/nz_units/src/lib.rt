@@ -1,10 +1,14 @@
-//! Monoids with lines: the units and the rest of a lattice, by its rows.
-//! Its contract: `unit_split` gives independent vectors of the same group, in two parts: all rows are 0 at the units, and at no nonzero sum of the rest.
-//! Below it stand the clearing of `nz_sweep`, the opposite vector of `nz_pointed`, and the laws on units of `nz_further`.
+//! Monoids with lines: their units, and one vector for each irreducible class.
+//! Its contract: `unit_split` gives independent vectors of the same group, in two parts: all rows are 0 at the units, and at no nonzero sum of the rest; `units` gives these units, and the vectors of the group of the rest that are of irreducible classes.
+//! Below it stand the clearing of `nz_sweep`, the first rows of `nz_rays`, the dual algorithm of `nz_dual`, and the laws on units of `nz_further`.
 //! Nothing uses it yet; a run that lists units and irreducible classes is to stand on it.
-//! Start reading at `specs/Splits.antt`, then `unit_split`.
+//! Start reading at `specs/Splits.antt` and `specs/UnitLists.antt`, then `units`.
 #![tactic(auto)]
 
+mod coordinates;
+mod irreducibles;
 mod splitting;
+mod unit_lists;
 
 pub use splitting::{Split, unit_split};
+pub use unit_lists::{UnitLists, units};

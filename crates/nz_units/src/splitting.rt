@@ -33,7 +33,7 @@ struct Parts<T: Scalar> {
 /// left with a value is set apart, turned so that its value is positive. Range comes only where a
 /// number of these steps is above `HALF`: the sum of the sizes of the products of a row and a vector,
 /// an entry or a value at a moment of clearing, or the sum of the sizes of the entries of a vector
-/// that is set apart.
+/// that is set apart and turned.
 pub fn unit_split<T: Scalar>(
     alloc: Global,
     lattice: &Rows<T>,
@@ -108,7 +108,7 @@ fn split_one<T: Scalar>(alloc: Global, row: &Row<T>, parts: Parts<T>) -> Result<
 // The vector, or its opposite where its value is below 0.
 fn turned<T: Scalar>(alloc: Global, vector: Row<T>, value: T) -> Result<Row<T>, Num>
     requires { T.integer value ≢ pos 0 }
-    ensures { MatchResult result (IsTurnedBy (T.integer value) vector) (λ e. e ≡ Num.Range → T.HALF <ℤ pos (measure vector)) }
+    ensures { MatchResult result (IsTurnedBy (T.integer value) vector) (λ e. e ≡ Num.Range → (T.integer value <ℤ pos 0) × (T.HALF <ℤ pos (measure vector))) }
 {
     if is_positive(value) {
         Ok(vector)

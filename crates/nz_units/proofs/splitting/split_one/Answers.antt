@@ -18,8 +18,8 @@ returns-in-Err-clause-cause g c = λ e. some_map g.T.Scalar.HALF (λ n k. cleari
 pub returns-in-Err-turned-clause-cause : goal.returns-in-Err-turned-clause-cause
 returns-in-Err-turned-clause-cause g c = λ e. record {
   number = pos (measure c.in-Ok-Some.taken.own);
-  is_number = turning (subst (λ (t : List Vector). IsTakenAt c.args.row.now t c.in-Ok-Some.taken.own (g.T.Scalar.integer c.in-Ok-Some.taken.value) c.in-Ok-Some.taken.others.items) c.as_slice.ensures.value (subst (λ o. MatchOption o (Each (λ v. dot c.args.row.now v ≡ pos 0) c.as_slice.result.now) (λ t. IsTakenAt c.args.row.now c.as_slice.result.now t.own (g.T.Scalar.integer t.value) t.others.items)) c.in-Ok-Some.field-0-is c.in-Ok-Some.ensures));
-  large = c.in-Err-turned.ensures e;
+  is_number = turning (subst (λ (t : List Vector). IsTakenAt c.args.row.now t c.in-Ok-Some.taken.own (g.T.Scalar.integer c.in-Ok-Some.taken.value) c.in-Ok-Some.taken.others.items) c.as_slice.ensures.value (subst (λ o. MatchOption o (Each (λ v. dot c.args.row.now v ≡ pos 0) c.as_slice.result.now) (λ t. IsTakenAt c.args.row.now c.as_slice.result.now t.own (g.T.Scalar.integer t.value) t.others.items)) c.in-Ok-Some.field-0-is c.in-Ok-Some.ensures)) (c.in-Err-turned.ensures e).0;
+  large = (c.in-Err-turned.ensures e).1;
 }
 
 pub returns-in-Ok-push-clause-steps : goal.returns-in-Ok-push-clause-steps
