@@ -5,3 +5,4 @@ pub mod RunLemmas
 pub mod CrowdLemmas
 pub mod ListLemmas
 pub mod RefusalLemmas
+pub mod SystemLemmas

@@ -56,7 +56,7 @@ found_in_rows w rows found list c k = element_in_rows w rows c (Each-contains (I
 pub found_wide : (w : ℕ) (rows found : List Vector) → IsListOf IsLexBefore (IsElement w rows) found → Each (HasWidth w) found
 found_wide w rows found list = each_map (IsElement w rows) (HasWidth w) found (λ c i. i.member.in_lattice) list.only
 
-different_back : (at : Vector → Vector) (P : Vector → Type 0) → ((c d : Vector) → P c → P d → at c ≡ at d → c ≡ d) → (cs : List Vector) → Each P cs → Pairwise ◌≢◌ cs → Pairwise ◌≢◌ (map at cs)
+pub different_back : (at : Vector → Vector) (P : Vector → Type 0) → ((c d : Vector) → P c → P d → at c ≡ at d → c ≡ d) → (cs : List Vector) → Each P cs → Pairwise ◌≢◌ cs → Pairwise ◌≢◌ (map at cs)
 different_back at P one [] h d = tt
 different_back at P one (c ∷ cs) h d = (go cs h.1 d.0, different_back at P one cs h.1 d.1)
   where

@@ -3,3 +3,5 @@ pub mod UnitLists
 pub mod UnitNumbers
 pub mod UnitCrowds
 pub mod Refusals
+pub mod SystemUnits
+pub mod SystemRefusals

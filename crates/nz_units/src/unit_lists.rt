@@ -101,7 +101,7 @@ fn width_of<T: Scalar>(vectors: &Rows<T>) -> usize
 }
 
 // The list, lexicographically.
-fn sorted<T: Scalar>(alloc: Global, mut list: Rows<T>) -> Result<Rows<T>, NoMemory>
+pub(crate) fn sorted<T: Scalar>(alloc: Global, mut list: Rows<T>) -> Result<Rows<T>, NoMemory>
     ensures { IfOk result (λ r. IsPermutation list r × IsInOrder None r) }
 {
     match sort(alloc, &mut list, no_grading()) {
