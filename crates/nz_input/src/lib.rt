@@ -9,6 +9,7 @@ mod fault;
 mod file;
 mod kind;
 mod laws;
+mod parts;
 mod reader;
 mod reading;
 mod refusal;
@@ -24,6 +25,7 @@ pub use laws::{
     texts_keep_limits, written_files_are_read_back,
 };
 pub use nz_vec::NoMemory;
+pub use parts::{FileEntry, entry, opening};
 pub use reading::read;
 pub use refusal::{Fault, ReadRefusal};
 pub use spell::{DigitFront, common, count, digit_run, number, word};
