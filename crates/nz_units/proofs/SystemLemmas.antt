@@ -2,7 +2,7 @@
 use Rattle.std.proofs.Common.{◌≡◌, ◌≢◌, ◌↔◌, ◌⊎◌, inl, inr, ℕ, ◌-◌, ◌≤◌, Bool, true, false, List, [], ◌∷◌, length, map, ℤ, pos, ◌≤ℤ◌, Contains, None, refl, sym, ap, ◌∙◌, subst, arith}
 use Rattle.std.specs.List.{AllByRecursion as Each}
 use Rattle.std.specs.List.Sorted.{IsPermutation}
-use Rattle.std.proofs.lemmas.List.Sorted.{Contains-permutation, IsPermutation-sym}
+use Rattle.std.proofs.lemmas.List.Sorted.{Contains-permutation, length_permutation, IsPermutation-sym}
 use Rattle.nz_spec.specs.Vectors.{Vector, dot, combination, unit_vectors, HasWidth}
 use Rattle.nz_spec.specs.Order.{IsLexBefore, IsListOf}
 use Rattle.nz_spec.specs.Sums.{IsInGroup, IsIndependent}
@@ -196,9 +196,14 @@ number_refused h limit s e (Stopped stage) cause w = w
 number_refused h limit s e NoMemory cause w = tt
 
 -- the lists by level, where the level is known only up to equality
-pub system_lists : (s : System) (level : Bool) (units back classes modules zero : List Vector) → level ≡ s.level → AreUnitsOf s back classes → units ≡ back → AreByLevel level classes modules zero → AreSystemUnits s units modules zero
-system_lists s level units back classes modules zero e are same levels = record {
+-- as many vectors come back as there are there
+pub as_many_back : (limit : ℕ) (base : Base) (cs classes : List Vector) → IsPermutation (map (λ c. vector_at base c) cs) classes → length cs ≤ limit → length classes ≤ limit
+as_many_back limit base cs classes moved few = let n = length_permutation (map (λ c. vector_at base c) cs) classes moved ∙ length-mapped (λ c. vector_at base c) cs in omega (arith, n, few)
+
+pub system_lists : (limit : ℕ) (s : System) (level : Bool) (units back classes modules zero : List Vector) → length classes ≤ limit → level ≡ s.level → AreUnitsOf s back classes → units ≡ back → AreByLevel level classes modules zero → AreSystemUnits limit s units modules zero
+system_lists limit s level units back classes modules zero few e are same levels = record {
   representatives = classes;
+  within = few;
   are = subst (λ (us : List Vector). AreUnitsOf s us classes) (sym same) are;
   levels = subst (λ (b : Bool). AreByLevel b classes modules zero) e levels;
 }

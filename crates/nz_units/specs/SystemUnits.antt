@@ -1,5 +1,5 @@
 -- The units and the irreducible classes of a system.
-use Rattle.std.specs.Prelude.{◌≡◌, ℕ, Bool, true, false, List, [], length, map, pos}
+use Rattle.std.specs.Prelude.{◌≡◌, ◌≤◌, ℕ, Bool, true, false, List, [], length, map, pos}
 use Rattle.nz_spec.specs.Vectors.{Vector, unit_vectors}
 use Rattle.nz_spec.specs.Systems.{System, IsMember}
 use Rattle.nz_order.specs.Picks.{Picks}
@@ -29,8 +29,9 @@ abbrev pub AreByLevel : Bool → (representatives modules classes : List Vector)
 AreByLevel true representatives modules classes = Picks (IsAtLevel (pos 1)) representatives modules × Picks (IsAtLevel (pos 0)) representatives classes
 AreByLevel false representatives modules classes = (modules ≡ []) × (classes ≡ representatives)
 
--- the units, and the representatives by level
-pub record AreSystemUnits (s : System) (units modules classes : List Vector) : Type 0 where
+-- the units, and the representatives, no more than the limit, by level
+pub record AreSystemUnits (limit : ℕ) (s : System) (units modules classes : List Vector) : Type 0 where
   pub representatives : List Vector
+  pub within : length representatives ≤ limit
   pub are : AreUnitsOf s units representatives
   pub levels : AreByLevel s.level representatives modules classes

@@ -1,5 +1,5 @@
 //! The units and the irreducible classes of a system.
-ghost use Rattle.std.specs.Prelude.{◌≡◌, ◌⊎◌, length, map, IsTrue, None, IfOk, IfErr};
+ghost use Rattle.std.specs.Prelude.{◌≡◌, ◌≤◌, ◌⊎◌, length, map, IsTrue, None, IfOk, IfErr};
 ghost use Rattle.std.specs.List.{AllByRecursion as Each};
 ghost use Rattle.std.specs.List.Sorted.{IsPermutation};
 ghost use Rattle.nz_spec.specs.Vectors.{unit_vectors, HasWidth};
@@ -31,7 +31,7 @@ pub struct SystemUnits<T: Scalar> {
 }
 
 /// The units of a system in the order of their split, and lexicographically one vector of each irreducible
-/// class, by level. A class of another level than 0 and 1 is in no list.
+/// class, by level: no more than the limit. A class of another level than 0 and 1 is in no list, and counts for the limit.
 ///
 /// Range comes only where a number is above `HALF`: one of the system's own, one of `units` in the
 /// coordinates of its base, or one of the way back from these. TooMany comes only where `units` there
@@ -41,7 +41,7 @@ pub fn system_units<T: Scalar>(
     system: &SystemOver<T>,
     limit: u32,
 ) -> Result<SystemUnits<T>, Work>
-    ensures lists { IfOk result (λ u. AreSystemUnits system.now.system u.units u.modules u.classes) }
+    ensures lists { IfOk result (λ u. AreSystemUnits limit system.now.system u.units u.modules u.classes) }
     ensures refusal { IfErr result (IsSystemRefusal T.HALF limit system.now.system) }
 {
     system.kept();
@@ -67,6 +67,7 @@ pub fn system_units<T: Scalar>(
 fn units_there<T: Scalar>(alloc: Global, frame: &Frame<T>, limit: u32) -> Result<UnitLists<T>, Work>
     requires wide { Each (HasWidth (length frame.now.base.vectors)) frame.now.rows }
     ensures lists { IfOk result (λ u. AreUnitLists (length frame.now.base.vectors) (unit_vectors (length frame.now.base.vectors)) frame.now.rows u.units u.classes) }
+    ensures within { IfOk result (λ u. length u.classes ≤ limit) }
     ensures refusal { IfErr result (IsUnitRefusal T.HALF limit (unit_vectors (length frame.now.base.vectors)) frame.now.rows) }
 {
     let lattice = match unit_rows(alloc, frame.base.rank()) {

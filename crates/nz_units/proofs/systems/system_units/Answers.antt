@@ -1,7 +1,7 @@
 use Rattle.std.proofs.Common.{ap}
 use Rattle.nz_system.specs.Meaning.{SystemData}
 use Rattle.nz_units.specs.SystemRefusals.{of_file}
-use Rattle.nz_units.proofs.SystemLemmas.{pulled_wide, classes_wide, units_of, return_refused, there_refused, number_refused, entries_there, system_lists}
+use Rattle.nz_units.proofs.SystemLemmas.{pulled_wide, classes_wide, units_of, return_refused, there_refused, number_refused, entries_there, as_many_back, system_lists}
 use Rattle.nz_units.proofs.systems.system_units.Goals as goal
 
 pub returns-in-Err-clause-refusal : goal.returns-in-Err-clause-refusal
@@ -26,6 +26,8 @@ by_level-requires g c = λ t. entries_there c.args.system.now.system c.kept.ensu
 
 pub returns-in-Ok-by_level-clause-lists : goal.returns-in-Ok-by_level-clause-lists
 returns-in-Ok-by_level-clause-lists g c =
-    system_lists c.args.system.now.system c.system.inside.level c.in-Ok-by_level.lists.units c.in-Ok-taken_to_file.back.units c.in-Ok-taken_to_file.back.classes c.in-Ok-by_level.lists.modules c.in-Ok-by_level.lists.classes (ap (λ (d : SystemData). d.system.level) c.system.view_is)
+    system_lists c.args.limit c.args.system.now.system c.system.inside.level c.in-Ok-by_level.lists.units c.in-Ok-taken_to_file.back.units c.in-Ok-taken_to_file.back.classes c.in-Ok-by_level.lists.modules c.in-Ok-by_level.lists.classes
+    (as_many_back c.args.limit c.in-Ok.frame.base c.in-Ok-units_there.there.classes c.in-Ok-taken_to_file.back.classes c.in-Ok-taken_to_file.ensures.classes.0 c.in-Ok-units_there.ensures.within)
+    (ap (λ (d : SystemData). d.system.level) c.system.view_is)
     (units_of c.args.system.now.system c.in-Ok.frame.base c.in-Ok.frame.rows c.in-Ok.ensures.frame c.kept.ensures.system c.in-Ok-units_there.there.units c.in-Ok-units_there.there.classes c.in-Ok-units_there.ensures.lists c.in-Ok.ensures.swept c.in-Ok-taken_to_file.back.units c.in-Ok-taken_to_file.back.classes c.in-Ok-taken_to_file.ensures.units c.in-Ok-taken_to_file.ensures.classes.0 c.in-Ok-taken_to_file.ensures.classes.1)
     c.in-Ok-by_level.ensures.units c.in-Ok-by_level.ensures.levels
