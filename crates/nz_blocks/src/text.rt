@@ -48,8 +48,8 @@ pub fn rays_heading_of(level: bool) -> &'static [u8]
     }
 }
 
-// The first two lines.
-fn put_space(out: &mut Bytes, amb: u32, level: bool) -> Result<(), NoMemory>
+/// Puts the first two lines of a text: the entries of a vector of the file, and whether there is a level.
+pub fn put_space(out: &mut Bytes, amb: u32, level: bool) -> Result<(), NoMemory>
     ensures { OnOk result (out.new ≡ out.old ++ space_lines amb level) }
 {
     out.push_all(b"amb_space ".as_slice())?;
@@ -95,7 +95,8 @@ fn put_heading(out: &mut Bytes, count: usize, heading: &[u8]) -> Result<(), NoMe
     out.push(b'\n')
 }
 
-fn put_block(
+/// Puts a block: an empty line, the number of rows before the heading, and the rows, right-aligned by columns.
+pub fn put_block(
     alloc: Global,
     out: &mut Bytes,
     heading: &[u8],

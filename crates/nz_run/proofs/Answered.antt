@@ -24,13 +24,14 @@ use Rattle.nz_watch.specs.Counts.{IsQuiet, Rose, last_value}
 use Rattle.nz_watch.specs.Telling.{Watched}
 use Rattle.nz_words.specs.Orders.{OrderData, IsOrder, OrdersOne}
 use Rattle.nz_run.specs.declared.status.Status.{Status}
-use Rattle.nz_run.specs.declared.status.Status.TheVariants.{Done, Usage, Absent, ReadFault, TooLong, Grammar, Meaning, Line, Grade, Range, TooMany, Stopped, WriteFault, NoMemory, Converted}
+use Rattle.nz_run.specs.declared.status.Status.TheVariants.{Done, Usage, Absent, ReadFault, TooLong, Grammar, Meaning, Line, Grade, Range, TooMany, Stopped, WriteFault, NoMemory, Converted, UnitsDone}
 use Rattle.nz_run.specs.declared.kinds.RunKind.{RunKind}
-use Rattle.nz_run.specs.declared.kinds.RunKind.TheVariants.{Plain, Convert}
+use Rattle.nz_run.specs.declared.kinds.RunKind.TheVariants.{Plain, Convert, Units}
+use Rattle.nz_run.specs.UnitRuns.{IsUnitsCause}
 use Rattle.nz_run.specs.Solving.{IsSolveCause}
 use Rattle.nz_run.specs.Kinds.{kind_of, IsCauseIn}
 use Rattle.nz_run.specs.Runs.{most, IsInput, IsLoaded, IsShort, IsReadCause, ExplainsOrder}
-use Rattle.nz_run.specs.Completeness.{IsCrowdAbove, IsValidRun, ValidRunsAreAnswered, IsValidConversion, ConversionsAreAnswered}
+use Rattle.nz_run.specs.Completeness.{IsCrowdAbove, IsValidRun, ValidRunsAreAnswered, IsValidConversion, ConversionsAreAnswered, ListingsAreAnswered}
 
 -- what is quiet did not rise
 not_risen : (before now : ℕ) → IsQuiet before now → ¬ Rose before now
@@ -66,6 +67,12 @@ crowd_above Dual s limit before now k = (k.0, k.1)
 -- a run is of one kind
 not_both : (kind : RunKind) → kind ≡ Plain → kind ≡ Convert → ⊥
 not_both kind p c = (let bad : Plain ≡ Convert = sym p ∙ c in cc)
+
+not_listed : (kind : RunKind) → kind ≡ Plain → kind ≡ Units → ⊥
+not_listed kind p c = (let bad : Plain ≡ Units = sym p ∙ c in cc)
+
+not_of_both : (kind : RunKind) → kind ≡ Convert → kind ≡ Units → ⊥
+not_of_both kind p c = (let bad : Convert ≡ Units = sym p ∙ c in cc)
 
 module _ (one_order : OrdersOne) (words : List Text) (old new : Files) (faults faults' : ℕ) (before now : Watched) (mine : OrderData) (ordered : IsOrder words mine) (text : Text) (loaded : IsInput mine.make mine.project old text) where
   -- what is said of what the words order is said of the order at hand
@@ -116,6 +123,9 @@ answered oo of words old new faults faults' misses misses' stores stores' before
 answered oo of words old new faults faults' misses misses' stores stores' before now Converted v u r =
     let e = explained oo words old new faults faults' before now v.order v.ordered v.input v.loaded Converted r.outcome.0 r.outcome.1 r.outcome.2 in
     absurd (not_both (kind_of v.order) v.plain e.2.0)
+answered oo of words old new faults faults' misses misses' stores stores' before now UnitsDone v u r =
+    let e = explained oo words old new faults faults' before now v.order v.ordered v.input v.loaded UnitsDone r.outcome.0 r.outcome.1 r.outcome.2 in
+    absurd (not_listed (kind_of v.order) v.plain e.2.0)
 answered oo of words old new faults faults' misses misses' stores stores' before now (Meaning i row f) v u r =
     let e = explained oo words old new faults faults' before now v.order v.ordered v.input v.loaded (Meaning i row f) r.outcome.0 r.outcome.1 r.outcome.2 in
     let k : IsSolveCause v.order.goals v.order.limit before now v.valid.file (Meaning i row f) = caused oo words old new faults faults' before now v.order v.ordered v.input v.loaded of Plain v.plain v.valid.file v.valid.read (Meaning i row f) e.0 e.1 e.2.0 in
@@ -153,6 +163,9 @@ converted oo of words old new faults faults' misses misses' stores stores' befor
 converted oo of words old new faults faults' misses misses' stores stores' before now Done v u r =
     let e = explained oo words old new faults faults' before now v.order v.ordered v.input v.loaded Done r.outcome.0 r.outcome.1 r.outcome.2 in
     absurd (not_both (kind_of v.order) e.2.0 v.converts)
+converted oo of words old new faults faults' misses misses' stores stores' before now UnitsDone v u r =
+    let e = explained oo words old new faults faults' before now v.order v.ordered v.input v.loaded UnitsDone r.outcome.0 r.outcome.1 r.outcome.2 in
+    absurd (not_of_both (kind_of v.order) v.converts e.2.0)
 converted oo of words old new faults faults' misses misses' stores stores' before now (Meaning i row f) v u r =
     let e = explained oo words old new faults faults' before now v.order v.ordered v.input v.loaded (Meaning i row f) r.outcome.0 r.outcome.1 r.outcome.2 in
     absurd (caused oo words old new faults faults' before now v.order v.ordered v.input v.loaded of Convert v.converts v.file v.read (Meaning i row f) e.0 e.1 e.2.0)
@@ -168,3 +181,41 @@ converted oo of words old new faults faults' misses misses' stores stores' befor
 converted oo of words old new faults faults' misses misses' stores stores' before now TooMany v u r =
     let e = explained oo words old new faults faults' before now v.order v.ordered v.input v.loaded TooMany r.outcome.0 r.outcome.1 r.outcome.2 in
     absurd (caused oo words old new faults faults' before now v.order v.ordered v.input v.loaded of Convert v.converts v.file v.read TooMany e.0 e.1 e.2.0)
+
+pub listed : OrdersOne → OneFile → ListingsAreAnswered
+listed oo of words old new faults faults' misses misses' stores stores' before now UnitsDone v u r = inl refl
+listed oo of words old new faults faults' misses misses' stores stores' before now NoMemory v u r = inr refl
+listed oo of words old new faults faults' misses misses' stores stores' before now Usage v u r = absurd (r.outcome.0 v.order v.ordered)
+listed oo of words old new faults faults' misses misses' stores stores' before now Absent v u r =
+    absurd (not_absent oo words old new faults faults' before now v.order v.ordered v.input v.loaded u.loads (explained oo words old new faults faults' before now v.order v.ordered v.input v.loaded Absent r.outcome.0 r.outcome.1 r.outcome.2))
+listed oo of words old new faults faults' misses misses' stores stores' before now ReadFault v u r = absurd (not_risen faults faults' u.loads r.count)
+listed oo of words old new faults faults' misses misses' stores stores' before now WriteFault v u r = absurd (not_risen stores stores' u.keeps r.count)
+listed oo of words old new faults faults' misses misses' stores stores' before now (Stopped k) v u r = absurd (not_risen before.stops now.stops u.goes_on r.watch.1.stops)
+listed oo of words old new faults faults' misses misses' stores stores' before now TooLong v u r =
+    absurd (not_long oo words old new faults faults' before now v.order v.ordered v.input v.loaded v.short (explained oo words old new faults faults' before now v.order v.ordered v.input v.loaded TooLong r.outcome.0 r.outcome.1 r.outcome.2))
+listed oo of words old new faults faults' misses misses' stores stores' before now (Grammar l c f) v u r =
+    absurd (not_refused oo words old new faults faults' before now v.order v.ordered v.input v.loaded l c f v.file v.read (explained oo words old new faults faults' before now v.order v.ordered v.input v.loaded (Grammar l c f) r.outcome.0 r.outcome.1 r.outcome.2))
+listed oo of words old new faults faults' misses misses' stores stores' before now Done v u r =
+    let e = explained oo words old new faults faults' before now v.order v.ordered v.input v.loaded Done r.outcome.0 r.outcome.1 r.outcome.2 in
+    absurd (not_listed (kind_of v.order) e.2.0 v.lists)
+listed oo of words old new faults faults' misses misses' stores stores' before now Converted v u r =
+    let e = explained oo words old new faults faults' before now v.order v.ordered v.input v.loaded Converted r.outcome.0 r.outcome.1 r.outcome.2 in
+    absurd (not_of_both (kind_of v.order) e.2.0 v.lists)
+listed oo of words old new faults faults' misses misses' stores stores' before now (Meaning i row f) v u r =
+    let e = explained oo words old new faults faults' before now v.order v.ordered v.input v.loaded (Meaning i row f) r.outcome.0 r.outcome.1 r.outcome.2 in
+    let k : IsUnitsCause v.order.goals v.order.limit before now v.file (Meaning i row f) = caused oo words old new faults faults' before now v.order v.ordered v.input v.loaded of Units v.lists v.file v.read (Meaning i row f) e.0 e.1 e.2.0 in
+    absurd (no_fault v.ready k.0)
+listed oo of words old new faults faults' misses misses' stores stores' before now (Line x) v u r =
+    let e = explained oo words old new faults faults' before now v.order v.ordered v.input v.loaded (Line x) r.outcome.0 r.outcome.1 r.outcome.2 in
+    absurd (caused oo words old new faults faults' before now v.order v.ordered v.input v.loaded of Units v.lists v.file v.read (Line x) e.0 e.1 e.2.0)
+listed oo of words old new faults faults' misses misses' stores stores' before now (Grade x) v u r =
+    let e = explained oo words old new faults faults' before now v.order v.ordered v.input v.loaded (Grade x) r.outcome.0 r.outcome.1 r.outcome.2 in
+    absurd (caused oo words old new faults faults' before now v.order v.ordered v.input v.loaded of Units v.lists v.file v.read (Grade x) e.0 e.1 e.2.0)
+listed oo of words old new faults faults' misses misses' stores stores' before now Range v u r =
+    let e = explained oo words old new faults faults' before now v.order v.ordered v.input v.loaded Range r.outcome.0 r.outcome.1 r.outcome.2 in
+    let k : IsUnitsCause v.order.goals v.order.limit before now v.file Range = caused oo words old new faults faults' before now v.order v.ordered v.input v.loaded of Units v.lists v.file v.read Range e.0 e.1 e.2.0 in
+    absurd (v.small k.cause)
+listed oo of words old new faults faults' misses misses' stores stores' before now TooMany v u r =
+    let e = explained oo words old new faults faults' before now v.order v.ordered v.input v.loaded TooMany r.outcome.0 r.outcome.1 r.outcome.2 in
+    let k : IsUnitsCause v.order.goals v.order.limit before now v.file TooMany = caused oo words old new faults faults' before now v.order v.ordered v.input v.loaded of Units v.lists v.file v.read TooMany e.0 e.1 e.2.0 in
+    absurd (v.few k.cause)

@@ -23,7 +23,7 @@ use Rattle.nz_watch.specs.Telling.{Watched}
 use Rattle.nz_words.specs.Orders.{OrderData, IsOrder, OrdersOne}
 use Rattle.nz_run.specs.declared.kinds.RunKind.TheVariants.{Plain}
 use Rattle.nz_run.specs.declared.status.Status.{Status}
-use Rattle.nz_run.specs.declared.status.Status.TheVariants.{Done, Usage, Absent, ReadFault, TooLong, Grammar, Meaning, Line, Grade, Range, TooMany, Stopped, WriteFault, NoMemory, Converted}
+use Rattle.nz_run.specs.declared.status.Status.TheVariants.{Done, Usage, Absent, ReadFault, TooLong, Grammar, Meaning, Line, Grade, Range, TooMany, Stopped, WriteFault, NoMemory, Converted, UnitsDone}
 use Rattle.nz_run.specs.Solving.{IsFileSolved}
 use Rattle.nz_run.specs.Runs.{IsInput, IsFound, ExplainsOrder, output_name}
 use Rattle.nz_run.specs.Closures.{IsClosureText, ClosuresAreStored}

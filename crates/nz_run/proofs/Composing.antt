@@ -14,14 +14,15 @@ use Rattle.nz_edge.specs.Answers.{OnTold, LoadGives, StoreLeaves}
 use Rattle.nz_edge.specs.declared.folder.Load.TheVariants as load
 use Rattle.nz_edge.specs.declared.folder.Stored.TheVariants as stored
 use Rattle.nz_run.specs.declared.status.Status.{Status}
-use Rattle.nz_run.specs.declared.status.Status.TheVariants.{Done, Usage, Absent, ReadFault, TooLong, Grammar, Meaning, Line, Grade, Range, TooMany, Stopped, WriteFault, NoMemory, Converted}
+use Rattle.nz_run.specs.declared.status.Status.TheVariants.{Done, Usage, Absent, ReadFault, TooLong, Grammar, Meaning, Line, Grade, Range, TooMany, Stopped, WriteFault, NoMemory, Converted, UnitsDone}
 use Rattle.nz_input.specs.declared.kind.Goal.{Goal}
 use Rattle.nz_words.specs.Orders.{OrderData, IsOrder, IsSide, input_name}
 use Rattle.nz_words.proofs.Unique.{order_one}
 use Rattle.nz_run.specs.declared.kinds.RunKind.{RunKind}
-use Rattle.nz_run.specs.declared.kinds.RunKind.TheVariants.{Plain, Convert}
+use Rattle.nz_run.specs.declared.kinds.RunKind.TheVariants.{Plain, Convert, Units}
 use Rattle.nz_run.specs.Watches.{WasToldNothing, WasToldPairs, WatchSays}
 use Rattle.nz_run.specs.Solving.{IsSolveCause}
+use Rattle.nz_run.specs.UnitRuns.{IsUnitsCause}
 use Rattle.nz_run.specs.Kinds.{kind_of, stored_status, IsCauseIn, IsConvertCause}
 use Rattle.nz_run.specs.Runs.{output_name, IsInput, IsFound, IsCause, IsReadCause, Leaves, RanOut, ExplainsOrder, Explains, CountRose, StoreCount, IsUnasked, AreUnasked, IsSideOf}
 use Rattle.nz_input.specs.Canonical.{canonical}
@@ -54,6 +55,7 @@ stores_after name output a b c h s = record { stored = s.stored; others = others
 explains : (order : OrderData) (w w' : Watched) (input : Text) (f f' : ℕ) (r : Status) (a b c : Files) → SameFiles a b → IsInput order.make order.project a input → Leaves order w w' (output_name order) input r b c → ExplainsOrder order w w' f f' r a c
 explains order w w' input f f' Done a b c h i s = (input, i, (s.0, s.1, s.2, stores_after (output_name order) s.1 a b c h s.3))
 explains order w w' input f f' Converted a b c h i s = (input, i, (s.0, s.1, s.2, stores_after (output_name order) s.1 a b c h s.3))
+explains order w w' input f f' UnitsDone a b c h i s = (input, i, (s.0, s.1, s.2, stores_after (output_name order) s.1 a b c h s.3))
 explains order w w' input f f' Usage a b c h i s = s.0
 explains order w w' input f f' Absent a b c h i s = absurd s.0
 explains order w w' input f f' ReadFault a b c h i s = absurd s.0
@@ -113,6 +115,7 @@ refused_before order w w' name input r o n h e = subst (λ (m : Option Files). B
     same : (r : Status) → IsCause (kind_of order) order.goals order.limit w w' input r → (a : Files) → Leaves order w w' name input r a a
     same Done h a = absurd h
     same Converted h a = absurd h
+    same UnitsDone h a = absurd h
     same Usage h a = absurd h
     same Absent h a = absurd h
     same ReadFault h a = absurd h
@@ -136,6 +139,7 @@ stored_done order w w' name input output bytes r o n s e d h =
     go : (kind : RunKind) → kind_of order ≡ kind → (a b : Files) → IsFound kind order.goals order.limit w w' input output → Stores name output a b → Leaves order w w' name input (stored_status kind) a b
     go Plain is a b s k = (is, output, s, k)
     go Convert is a b s k = (is, output, s, k)
+    go Units is a b s k = (is, output, s, k)
 
 pub stored_failed : (order : OrderData) (w w' : Watched) (name input output bytes : Text) (o n : Option Files) → IsFound (kind_of order) order.goals order.limit w w' input output → BothTold o n (λ old new. StoreLeaves name bytes old new stored.Failed) → BothTold o n (Leaves order w w' name input WriteFault)
 stored_failed order w w' name input output bytes o n s h = told_weaker o n (λ old new. StoreLeaves name bytes old new stored.Failed) (Leaves order w w' name input WriteFault) h (λ a b k. (output, s, k))
@@ -152,6 +156,7 @@ stored_not order w w' name input output bytes o n s h = told_weaker o n (λ old 
       cause = inr (record { ready = s.found.ready; refused = inr (s.found.told.passed, s.found.told.telling) });
     })
     go Convert s = inl s.found.1
+    go Units s = inl s.found.told
 
 -- ---- what the watch says
 
@@ -170,6 +175,7 @@ crowd_pairs Dual w w' file limit h = (_, h.2.was_told)
 says_unsolved : (goals : List Goal) (limit : ℕ) (w w' : Watched) (file : FileData) (r : Status) → IsSolveCause goals limit w w' file r → WatchSays r w w'
 says_unsolved goals limit w w' file Done h = absurd h
 says_unsolved goals limit w w' file Converted h = absurd h
+says_unsolved goals limit w w' file UnitsDone h = absurd h
 says_unsolved goals limit w w' file Usage h = absurd h
 says_unsolved goals limit w w' file Absent h = absurd h
 says_unsolved goals limit w w' file ReadFault h = absurd h
@@ -188,6 +194,7 @@ says_unsolved goals limit w w' file NoMemory h = elim h [ inl n ↦ ([], n) | in
 says_unconverted : (w w' : Watched) (r : Status) → IsConvertCause w w' r → WatchSays r w w'
 says_unconverted w w' Done h = absurd h
 says_unconverted w w' Converted h = absurd h
+says_unconverted w w' UnitsDone h = absurd h
 says_unconverted w w' Usage h = absurd h
 says_unconverted w w' Absent h = absurd h
 says_unconverted w w' ReadFault h = absurd h
@@ -202,13 +209,34 @@ says_unconverted w w' (Stopped k) h = absurd h
 says_unconverted w w' WriteFault h = absurd h
 says_unconverted w w' NoMemory h = ([], h)
 
+-- what a file gives a run that lists units as a cause
+says_unlisted : (goals : List Goal) (limit : ℕ) (w w' : Watched) (file : FileData) (r : Status) → IsUnitsCause goals limit w w' file r → WatchSays r w w'
+says_unlisted goals limit w w' file Done h = absurd h
+says_unlisted goals limit w w' file Converted h = absurd h
+says_unlisted goals limit w w' file UnitsDone h = absurd h
+says_unlisted goals limit w w' file Usage h = absurd h
+says_unlisted goals limit w w' file Absent h = absurd h
+says_unlisted goals limit w w' file ReadFault h = absurd h
+says_unlisted goals limit w w' file TooLong h = absurd h
+says_unlisted goals limit w w' file (Grammar l k g) h = absurd h
+says_unlisted goals limit w w' file (Meaning l k g) h = h.1
+says_unlisted goals limit w w' file (Line v) h = absurd h
+says_unlisted goals limit w w' file (Grade v) h = absurd h
+says_unlisted goals limit w w' file Range h = ([], h.told)
+says_unlisted goals limit w w' file TooMany h = ([], h.told)
+says_unlisted goals limit w w' file (Stopped k) h = absurd h
+says_unlisted goals limit w w' file WriteFault h = absurd h
+says_unlisted goals limit w w' file NoMemory h = ([], h)
+
 says_cause : (kind : RunKind) (goals : List Goal) (limit : ℕ) (w w' : Watched) (file : FileData) (r : Status) → IsCauseIn kind goals limit w w' file r → WatchSays r w w'
 says_cause Plain goals limit w w' file r h = says_unsolved goals limit w w' file r h
 says_cause Convert goals limit w w' file r h = says_unconverted w w' r h
+says_cause Units goals limit w w' file r h = says_unlisted goals limit w w' file r h
 
 pub says_refused : (kind : RunKind) (goals : List Goal) (limit : ℕ) (w w' : Watched) (input : Text) (r : Status) → IsCause kind goals limit w w' input r → WatchSays r w w'
 says_refused kind goals limit w w' input Done h = absurd h
 says_refused kind goals limit w w' input Converted h = absurd h
+says_refused kind goals limit w w' input UnitsDone h = absurd h
 says_refused kind goals limit w w' input Usage h = absurd h
 says_refused kind goals limit w w' input Absent h = absurd h
 says_refused kind goals limit w w' input ReadFault h = absurd h
@@ -229,6 +257,7 @@ says_refused kind goals limit w w' input NoMemory h = elim h [
 pub says_found : (kind : RunKind) (goals : List Goal) (limit : ℕ) (w w' : Watched) (input output : Text) → IsFound kind goals limit w w' input output → WasToldPairs false w w'
 says_found Plain goals limit w w' input output s = all_pairs w w' s.found.told
 says_found Convert goals limit w w' input output s = ([], s.found.1)
+says_found Units goals limit w w' input output s = ([], s.found.told)
 
 pub says_stored : (kind : RunKind) (goals : List Goal) (limit : ℕ) (w w' : Watched) (input output : Text) (r : Status) → r ≡ stored_status kind → IsFound kind goals limit w w' input output → WatchSays r w w'
 says_stored kind goals limit w w' input output r d s = subst (λ (t : Status). WatchSays t w w') (sym d) (go kind s)
@@ -236,6 +265,7 @@ says_stored kind goals limit w w' input output r d s = subst (λ (t : Status). W
     go : (kind : RunKind) → IsFound kind goals limit w w' input output → WatchSays (stored_status kind) w w'
     go Plain s = all_pairs w w' s.found.told
     go Convert s = s.found.1
+    go Units s = s.found.told
 
 pub stored_count : (kind : RunKind) (r : Status) (a b : ℕ) → r ≡ stored_status kind → StoreCount r a b
 stored_count kind r a b d = subst (λ (t : Status). StoreCount t a b) (sym d) (go kind)
@@ -243,10 +273,12 @@ stored_count kind r a b d = subst (λ (t : Status). StoreCount t a b) (sym d) (g
     go : (kind : RunKind) → StoreCount (stored_status kind) a b
     go Plain = tt
     go Convert = tt
+    go Units = tt
 
 pub refused_count : (kind : RunKind) (goals : List Goal) (limit : ℕ) (w w' : Watched) (input : Text) (r : Status) (a b : ℕ) → IsCause kind goals limit w w' input r → StoreCount r a b
 refused_count kind goals limit w w' input Done a b h = tt
 refused_count kind goals limit w w' input Converted a b h = tt
+refused_count kind goals limit w w' input UnitsDone a b h = tt
 refused_count kind goals limit w w' input Usage a b h = h
 refused_count kind goals limit w w' input Absent a b h = h
 refused_count kind goals limit w w' input ReadFault a b h = h
@@ -277,6 +309,7 @@ count_of_store (Stopped k) f f' m m' s s' t t' d e h = tt
 count_of_store WriteFault f f' m m' s s' t t' d e h = rw (d, e) h
 count_of_store NoMemory f f' m m' s s' t t' d e h = tt
 count_of_store Converted f f' m m' s s' t t' d e h = tt
+count_of_store UnitsDone f f' m m' s s' t t' d e h = tt
 
 pub store_not_usage : (r : Status) (a b : ℕ) → StoreCount r a b → r ≡ Usage → ⊥
 store_not_usage r a b h e = (let k = subst (λ (s : Status). StoreCount s a b) e h in k)
@@ -300,6 +333,7 @@ explains_words words order w w' f f' r o n d u h = told_weaker o n (ExplainsOrde
     go WriteFault u a b h = (order, d, h)
     go NoMemory u a b h = (h.0, inr (order, d, h))
     go Converted u a b h = (order, d, h)
+    go UnitsDone u a b h = (order, d, h)
 
 -- what the words order is one thing, so the folder is not asked where a file is made for it
 pub words_unasked : (words : List Text) (order : OrderData) (f f' m m' : ℕ) → IsOrder words order → IsUnasked order.make f f' m m' → AreUnasked words f f' m m'

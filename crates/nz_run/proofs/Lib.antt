@@ -5,4 +5,5 @@ pub mod Pieces
 pub mod Printing
 pub mod Answering
 mod ModeTexts
+mod UnitTexts
 mod ClosureTexts

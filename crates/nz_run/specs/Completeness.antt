@@ -1,4 +1,4 @@
--- Which runs end with Done or Converted, unless memory runs out.
+-- Which runs end with Done, Converted or UnitsDone, unless memory runs out.
 use Rattle.std.specs.Prelude.{◌≡◌, ℕ, List}
 use Rattle.nz_vec.specs.Texts.{Text}
 use Rattle.nz_spec.specs.Systems.{System, IsMember}
@@ -17,10 +17,11 @@ use Rattle.nz_edge.specs.Folders.{Files}
 use Rattle.nz_watch.specs.Counts.{IsQuiet}
 use Rattle.nz_watch.specs.Telling.{Watched}
 use Rattle.nz_words.specs.Orders.{OrderData, IsOrder}
-use Rattle.nz_ideal.specs.Meanings.{meaning, HasMeaning}
+use Rattle.nz_ideal.specs.Meanings.{system_of, meaning, HasMeaning}
+use Rattle.nz_units.specs.SystemRefusals.{IsUnitReachAbove, IsUnitCrowdAbove}
 use Rattle.nz_run.specs.declared.status.Status.{Status}
-use Rattle.nz_run.specs.declared.status.Status.TheVariants.{Done, Converted}
-use Rattle.nz_run.specs.declared.kinds.RunKind.TheVariants.{Plain, Convert}
+use Rattle.nz_run.specs.declared.status.Status.TheVariants.{Done, Converted, UnitsDone}
+use Rattle.nz_run.specs.declared.kinds.RunKind.TheVariants.{Plain, Convert, Units}
 use Rattle.nz_run.specs.Kinds.{kind_of}
 use Rattle.nz_run.specs.Runs.{IsInput, IsShort, Explains, CountRose, Decided}
 use Rattle.nz_run.specs.Watches.{WatchSays}
@@ -65,6 +66,20 @@ pub record IsValidConversion (words : List Text) (files : Files) : Type 0 where
   pub file : FileData
   pub read : IsTextOf input file
 
+-- the words order a run that lists units, and its input is a text, not too long, of a file that breaks no rule of meaning, whose numbers are small enough and whose lists are short enough
+pub record IsValidListing (words : List Text) (files : Files) : Type 0 where
+  pub order : OrderData
+  pub ordered : IsOrder words order
+  pub lists : kind_of order ≡ Units
+  pub input : Text
+  pub loaded : IsInput order.make order.project files input
+  pub short : IsShort input
+  pub file : FileData
+  pub read : IsTextOf input file
+  pub ready : HasMeaning file order.goals
+  pub small : ¬ IsUnitReachAbove (system_of file) half
+  pub few : ¬ IsUnitCrowdAbove (system_of file) order.limit
+
 -- the folder counts no fault and no failed store, and the watch no stop
 pub record IsUndisturbed (faults faults' stores stores' : ℕ) (before now : Watched) : Type 0 where
   pub loads : IsQuiet faults faults'
@@ -86,3 +101,8 @@ ValidRunsAreAnswered = (words : List Text) (old new : Files) (faults faults' mis
 abbrev pub ConversionsAreAnswered : Type 0
 ConversionsAreAnswered = (words : List Text) (old new : Files) (faults faults' misses misses' stores stores' : ℕ) (before now : Watched) (status : Status)
     → IsValidConversion words old → IsUndisturbed faults faults' stores stores' before now → IsRunStatus words old new faults faults' misses misses' stores stores' before now status → Decided status Converted
+
+-- a valid run that lists units and that nothing disturbs ends with UnitsDone, unless memory runs out
+abbrev pub ListingsAreAnswered : Type 0
+ListingsAreAnswered = (words : List Text) (old new : Files) (faults faults' misses misses' stores stores' : ℕ) (before now : Watched) (status : Status)
+    → IsValidListing words old → IsUndisturbed faults faults' stores stores' before now → IsRunStatus words old new faults faults' misses misses' stores stores' before now status → Decided status UnitsDone

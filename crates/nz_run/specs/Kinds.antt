@@ -7,30 +7,34 @@ use Rattle.nz_input.specs.Canonical.{canonical}
 use Rattle.nz_watch.specs.Telling.{Watched}
 use Rattle.nz_words.specs.Orders.{OrderData}
 use Rattle.nz_run.specs.Solving.{IsFileSolved, IsSolveCause}
+use Rattle.nz_run.specs.UnitRuns.{AreUnitsFound, IsUnitsCause}
 use Rattle.nz_run.specs.Watches.{WasToldNothing}
 use Rattle.nz_run.specs.declared.kinds.RunKind.{RunKind}
-use Rattle.nz_run.specs.declared.kinds.RunKind.TheVariants.{Plain, Convert}
+use Rattle.nz_run.specs.declared.kinds.RunKind.TheVariants.{Plain, Convert, Units}
 use Rattle.nz_run.specs.declared.status.Status.{Status}
-use Rattle.nz_run.specs.declared.status.Status.TheVariants.{Done, Converted, NoMemory}
+use Rattle.nz_run.specs.declared.status.Status.TheVariants.{Done, Converted, UnitsDone, NoMemory}
 
 -- the kind of the run that is ordered
 abbrev pub kind_of : OrderData → RunKind
-kind_of order = cond order.convert Convert Plain
+kind_of order = cond order.convert Convert (cond order.units Units Plain)
 
 -- how the name of the file ends that a run of the kind stores
 abbrev pub ending_of : RunKind → Text
 ending_of Plain = codes ".out"
 ending_of Convert = codes ".conv"
+ending_of Units = codes ".units"
 
 -- the status of a run of the kind whose file is stored
 abbrev pub stored_status : RunKind → Status
 stored_status Plain = Done
 stored_status Convert = Converted
+stored_status Units = UnitsDone
 
--- what a run of the kind finds for a file, and what its watch was told: a plain run what is asked of its system, a conversion its canonical text
+-- what a run of the kind finds for a file, and what its watch was told: a plain run what is asked of its system, a conversion its canonical text, a run that lists units those of its system and one vector for each irreducible class
 abbrev pub IsFileFound : RunKind → List Goal → (limit : ℕ) → (before now : Watched) → FileData → (output : Text) → Type 0
 IsFileFound Plain goals limit before now file output = IsFileSolved goals limit before now file output
 IsFileFound Convert goals limit before now file output = (output ≡ canonical file) × WasToldNothing before now
+IsFileFound Units goals limit before now file output = AreUnitsFound goals limit before now file output
 
 -- the one cause that a file gives a conversion: memory may run out
 abbrev pub IsConvertCause : (before now : Watched) → Status → Type 0
@@ -41,3 +45,4 @@ IsConvertCause before now status = ⊥
 abbrev pub IsCauseIn : RunKind → List Goal → (limit : ℕ) → (before now : Watched) → FileData → Status → Type 0
 IsCauseIn Plain goals limit before now file status = IsSolveCause goals limit before now file status
 IsCauseIn Convert goals limit before now file status = IsConvertCause before now status
+IsCauseIn Units goals limit before now file status = IsUnitsCause goals limit before now file status

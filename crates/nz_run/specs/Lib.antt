@@ -1,6 +1,7 @@
 pub mod Statuses
 pub mod Watches
 pub mod Solving
+pub mod UnitRuns
 pub mod Kinds
 pub mod Runs
 pub mod Summaries

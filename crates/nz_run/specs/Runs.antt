@@ -13,11 +13,11 @@ use Rattle.nz_words.specs.Orders.{OrderData, IsOrder, AreRefused, input_name}
 use Rattle.nz_run.specs.Kinds.{kind_of, ending_of, IsFileFound, IsCauseIn}
 use Rattle.nz_run.specs.Watches.{WasToldNothing}
 use Rattle.nz_run.specs.declared.kinds.RunKind.{RunKind}
-use Rattle.nz_run.specs.declared.kinds.RunKind.TheVariants.{Plain, Convert}
+use Rattle.nz_run.specs.declared.kinds.RunKind.TheVariants.{Plain, Convert, Units}
 use Rattle.nz_input.specs.Canonical.{canonical}
 use Rattle.nz_make.specs.Squares.{made_file}
 use Rattle.nz_run.specs.declared.status.Status.{Status}
-use Rattle.nz_run.specs.declared.status.Status.TheVariants.{Done, Usage, Absent, ReadFault, TooLong, Grammar, Meaning, Line, Grade, Range, TooMany, Stopped, WriteFault, NoMemory, Converted}
+use Rattle.nz_run.specs.declared.status.Status.TheVariants.{Done, Usage, Absent, ReadFault, TooLong, Grammar, Meaning, Line, Grade, Range, TooMany, Stopped, WriteFault, NoMemory, Converted, UnitsDone}
 
 -- the file that a run stores
 abbrev pub output_name : OrderData → Text
@@ -79,6 +79,7 @@ IsCause kind goals limit before now input Absent = ⊥
 IsCause kind goals limit before now input ReadFault = ⊥
 IsCause kind goals limit before now input WriteFault = ⊥
 IsCause kind goals limit before now input Converted = ⊥
+IsCause kind goals limit before now input UnitsDone = ⊥
 
 -- ---- what a run leaves
 
@@ -90,6 +91,7 @@ HasStored kind order before now name input old new = (kind_of order ≡ kind) ×
 abbrev pub Leaves : OrderData → (before now : Watched) → (name input : Text) → Status → Files → Files → Type 0
 Leaves order before now name input Done old new = HasStored Plain order before now name input old new
 Leaves order before now name input Converted old new = HasStored Convert order before now name input old new
+Leaves order before now name input UnitsDone old new = HasStored Units order before now name input old new
 Leaves order before now name input WriteFault old new = (output : Text) × IsFound (kind_of order) order.goals order.limit before now input output × SameOthers name old new
 Leaves order before now name input status old new = IsCause (kind_of order) order.goals order.limit before now input status × SameFiles old new
 

@@ -10,7 +10,7 @@ use Rattle.nz_system.specs.declared.refusal.MeaningFault.{MeaningFault}
 use Rattle.nz_system.specs.declared.refusal.MeaningFault.TheVariants as rule
 use Rattle.nz_blocks.specs.Lines.{line}
 use Rattle.nz_run.specs.declared.status.Status.{Status}
-use Rattle.nz_run.specs.declared.status.Status.TheVariants.{Done, Usage, Absent, ReadFault, TooLong, Grammar, Meaning, Line, Grade, Range, TooMany, Stopped, WriteFault, NoMemory, Converted}
+use Rattle.nz_run.specs.declared.status.Status.TheVariants.{Done, Usage, Absent, ReadFault, TooLong, Grammar, Meaning, Line, Grade, Range, TooMany, Stopped, WriteFault, NoMemory, Converted, UnitsDone}
 
 -- the exit status of the program
 abbrev pub code_of : Status → ℕ
@@ -29,6 +29,7 @@ code_of (Stopped k) = 12
 code_of WriteFault = 13
 code_of NoMemory = 14
 code_of Converted = 17
+code_of UnitsDone = 18
 
 -- the name of a fault
 abbrev pub fault_name : Fault → Text
@@ -82,3 +83,4 @@ status_line (Stopped k) = line (codes "stopped at stage " ++ decimal k)
 status_line WriteFault = line (codes "write fault")
 status_line NoMemory = line (codes "no memory")
 status_line Converted = line (codes "converted")
+status_line UnitsDone = line (codes "units done")

@@ -6,6 +6,7 @@ ghost use Rattle.nz_run.specs.Runs.{IsFound, IsCause};
 use crate::Status;
 use crate::converting::converted;
 use crate::kinds::{RunKind, kind_ordered};
+use crate::listing::units_listed;
 use crate::solving::file_solved;
 use nz_input::{File, ReadRefusal, read};
 use nz_vec::Bytes;
@@ -28,6 +29,7 @@ fn file_found(
     match kind_ordered(order) {
         RunKind::Plain => file_solved(alloc, file, &order.goals, order.limit, watch),
         RunKind::Convert => converted(alloc, file),
+        RunKind::Units => units_listed(alloc, file, &order.goals, order.limit),
     }
 }
 

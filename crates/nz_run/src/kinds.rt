@@ -12,6 +12,8 @@ pub enum RunKind {
     Plain,
     /// The canonical text of the file is stored.
     Convert,
+    /// The units of the file's system and a vector of each irreducible class are stored.
+    Units,
 }
 
 /// The kind of the run that is ordered.
@@ -20,6 +22,8 @@ pub(crate) fn kind_ordered(order: &RunOrder) -> RunKind
 {
     if order.convert {
         RunKind::Convert
+    } else if order.units {
+        RunKind::Units
     } else {
         RunKind::Plain
     }
@@ -33,6 +37,7 @@ impl RunKind {
         match self {
             RunKind::Plain => ".out",
             RunKind::Convert => ".conv",
+            RunKind::Units => ".units",
         }
     }
 
@@ -43,6 +48,7 @@ impl RunKind {
         match self {
             RunKind::Plain => Status::Done,
             RunKind::Convert => Status::Converted,
+            RunKind::Units => Status::UnitsDone,
         }
     }
 }

@@ -1,5 +1,5 @@
 //! What all runs of a file have in common, and which runs are answered.
-ghost use Rattle.nz_run.specs.Completeness.{ValidRunsAreAnswered, ConversionsAreAnswered};
+ghost use Rattle.nz_run.specs.Completeness.{ValidRunsAreAnswered, ConversionsAreAnswered, ListingsAreAnswered};
 ghost use Rattle.nz_run.specs.Closures.{ClosuresAreStored};
 ghost use Rattle.nz_run.specs.Laws.{ModesGiveOneText, RunsGiveOneText, ConversionsKeepTheFile};
 
@@ -58,4 +58,13 @@ pub fn closures_are_stored()
     texts_have_one_file();
     texts_keep_limits();
     closures_are_answered();
+}
+
+/// A run that lists units, whose input is a text of a file with a meaning, with small numbers and short lists, and that no fault
+/// disturbs, ends with UnitsDone, or for want of memory.
+pub fn listings_are_answered()
+    ensures { ListingsAreAnswered }
+{
+    words_order_one_thing();
+    texts_have_one_file();
 }

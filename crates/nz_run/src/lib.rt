@@ -9,6 +9,7 @@ mod converting;
 mod finding;
 mod kinds;
 mod laws;
+mod listing;
 mod solving;
 mod status;
 mod status_lines;
@@ -16,8 +17,8 @@ mod top;
 
 pub use kinds::RunKind;
 pub use laws::{
-    closures_are_stored, conversions_are_answered, conversions_keep_the_file, modes_give_one_text,
-    runs_give_one_text, valid_runs_are_answered,
+    closures_are_stored, conversions_are_answered, conversions_keep_the_file,
+    listings_are_answered, modes_give_one_text, runs_give_one_text, valid_runs_are_answered,
 };
 pub use status::Status;
 pub use top::run;

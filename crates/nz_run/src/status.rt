@@ -4,7 +4,7 @@ use nz_input::Fault;
 use nz_system::MeaningFault;
 use nz_vec::Ints;
 
-/// What a run ends with. On every status but `Done`, `Converted` and `WriteFault` the files are as before.
+/// What a run ends with. On every status but `Done`, `Converted`, `UnitsDone` and `WriteFault` the files are as before.
 #[derive(Drop)]
 pub enum Status {
     /// The text of what was asked is stored.
@@ -48,6 +48,8 @@ pub enum Status {
     NoMemory,
     /// The canonical text of the input's file is stored.
     Converted,
+    /// The units and the representatives of the irreducible classes are stored.
+    UnitsDone,
 }
 
 impl Status {
@@ -73,6 +75,7 @@ impl Status {
             Status::WriteFault => 13,
             Status::NoMemory => 14,
             Status::Converted => 17,
+            Status::UnitsDone => 18,
         }
     }
 }

@@ -197,6 +197,7 @@ fn put_status<S: Sink>(console: &mut S, status: &Status) -> bool
         Status::WriteFault => put_all(console, b"write fault\n"),
         Status::NoMemory => put_all(console, b"no memory\n"),
         Status::Converted => put_all(console, b"converted\n"),
+        Status::UnitsDone => put_all(console, b"units done\n"),
     }
 }
 

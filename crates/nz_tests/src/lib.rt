@@ -23,3 +23,5 @@ mod run_tests;
 mod solve_tests;
 #[cfg(test)]
 mod stop_tests;
+#[cfg(test)]
+mod units_tests;

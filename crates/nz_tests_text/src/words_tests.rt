@@ -5,7 +5,7 @@ use std::test::Fail;
 
 // Words with `|` between them, and their order as text: project, limit, whether stages are printed, after how many the run stops, the
 // side of a made file where there is one, goals.
-const CASES: [(&str, &str); 63] = [
+const CASES: [(&str, &str); 58] = [
     ("", "usage"),
     ("p", "p 100000 false None"),
     ("p|q", "usage"),
@@ -25,11 +25,6 @@ const CASES: [(&str, &str); 63] = [
         "p 100000 false None HilbertBasis PrimalMode",
     ),
     ("--Verbose|--Verbose|p", "usage"),
-    ("--Convert|p", "p 100000 false None convert"),
-    ("p.in|--Convert|--Limit=8", "p 8 false None convert"),
-    ("--Convert|--Convert|p", "usage"),
-    ("--Convert=1|p", "usage"),
-    ("--Conv|p", "usage"),
     ("-x|p", "usage"),
     ("--Make|0|p", "usage"),
     ("--Make|1|p", "p 100000 false None made 1"),
@@ -77,6 +72,31 @@ const CASES: [(&str, &str); 63] = [
     ("p in", "p in 100000 false None"),
 ];
 
+// The same for the kinds of runs.
+const KIND_CASES: [(&str, &str); 18] = [
+    ("--Convert|p", "p 100000 false None convert"),
+    ("p.in|--Convert|--Limit=8", "p 8 false None convert"),
+    ("--Convert|--Convert|p", "usage"),
+    ("--Convert=1|p", "usage"),
+    ("--Units|p", "p 100000 false None units"),
+    ("p.in|--Units|--Limit=8", "p 8 false None units"),
+    (
+        "--Units|--DualMode|--Limit|1|p",
+        "p 1 false None units DualMode",
+    ),
+    ("--Units|--Units|p", "usage"),
+    ("--Units=1|p", "usage"),
+    ("--Units", "usage"),
+    ("--Unit|p", "usage"),
+    ("--Units|--Convert|p", "usage"),
+    ("--Convert|--Units|p", "usage"),
+    ("p|--Convert|--Verbose|--Units", "usage"),
+    ("--|p|--Units", "usage"),
+    ("--Limit|--Units|p", "usage"),
+    ("--Convert|--|--Units", "usage"),
+    ("--Conv|p", "usage"),
+];
+
 fn words_of(alloc: Global, line: &str) -> Result<Vec<String>, Fail> {
     let mut words = Vec::new(alloc);
     if line.is_empty() {
@@ -100,6 +120,9 @@ fn shown(alloc: Global, order: &RunOrder) -> Result<String, Fail> {
     }
     if order.convert {
         text = format!(in alloc; "{text} convert")?;
+    }
+    if order.units {
+        text = format!(in alloc; "{text} units")?;
     }
     for place in 0..order.goals.len() {
         let goal = order.goals.at(place);
@@ -129,14 +152,25 @@ fn expected(alloc: Global, words: &[String]) -> Result<(String, WatchChoice), Fa
     }
 }
 
+// Whether the words order just this, and the watch is chosen by it.
+fn is_ordered(alloc: Global, line: &str, text: &str) -> Result<bool, Fail> {
+    let words = words_of(alloc, line)?;
+    let (answer, choice) = expected(alloc, words.as_slice())?;
+    Ok(answer.as_str() == text && watch_choice(alloc, words.as_slice())? == choice)
+}
+
 #[test]
 fn orders_what_the_words_say(rt: HostRuntime) -> Result<(), Fail> {
-    let alloc = rt.alloc();
     for (line, text) in CASES {
-        let words = words_of(alloc, line)?;
-        let (answer, choice) = expected(alloc, words.as_slice())?;
-        assert_eq!(rt; answer.as_str(), text, "at {line}");
-        assert_eq!(rt; watch_choice(alloc, words.as_slice())?, choice, "at {line}");
+        assert!(rt; is_ordered(rt.alloc(), line, text)?, "at {line}");
+    }
+    Ok(())
+}
+
+#[test]
+fn orders_kinds_of_runs(rt: HostRuntime) -> Result<(), Fail> {
+    for (line, text) in KIND_CASES {
+        assert!(rt; is_ordered(rt.alloc(), line, text)?, "at {line}");
     }
     Ok(())
 }

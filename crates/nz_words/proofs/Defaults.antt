@@ -15,7 +15,7 @@ use Rattle.nz_vec.specs.Texts.{Text}
 use Rattle.nz_input.specs.declared.kind.Goal.{Goal}
 use Rattle.nz_input.specs.declared.kind.Goal.TheVariants.{HilbertBasis, ExtremeRays, SupportHyperplanes, Deg1Elements, ModuleGenerators, Triangulation, DualMode, PrimalMode}
 use Rattle.nz_input.specs.Words.{goal_word}
-use Rattle.nz_words.specs.Parts.{Flag, OfGoal, Verbose, Convert, Limit, Stages, Make, Part, Flagged, Valued, Named, flag_word, setting_word, label_of, value_of, given}
+use Rattle.nz_words.specs.Parts.{Flag, OfGoal, Verbose, Convert, Units, Limit, Stages, Make, Part, Flagged, Valued, Named, flag_word, setting_word, label_of, value_of, given}
 use Rattle.nz_words.specs.Orders.{GivenData, given_by, all_goals}
 use Rattle.nz_words.specs.Rules.{given_in, is_on, IsFlagIn, AreFlags}
 use Rattle.nz_words.proofs.Walking.{filled, row_of, at_new}
@@ -153,6 +153,7 @@ no_other (OfGoal DualMode) = record { limit = refl; stages = refl; make = refl; 
 no_other (OfGoal PrimalMode) = record { limit = refl; stages = refl; make = refl; project = refl }
 no_other Verbose = record { limit = refl; stages = refl; make = refl; project = refl }
 no_other Convert = record { limit = refl; stages = refl; make = refl; project = refl }
+no_other Units = record { limit = refl; stages = refl; make = refl; project = refl }
 
 one_default : (f : Flag) → option_and_then row_text (default_look (flag_word f) filled) ≡ Some (codes "false")
 one_default (OfGoal HilbertBasis) = refl
@@ -165,6 +166,7 @@ one_default (OfGoal DualMode) = refl
 one_default (OfGoal PrimalMode) = refl
 one_default Verbose = refl
 one_default Convert = refl
+one_default Units = refl
 
 -- a part with the word of a flag is that flag
 flag_value_is : (f : Flag) (p : Part) → bytes_eq (label_of p) (flag_word f) ≡ true → value_of p ≡ codes "true"
@@ -206,8 +208,8 @@ filter_same : (p q : Goal → Bool) (gs : List Goal) → ((g : Goal) → p g ≡
 filter_same p q [] same = refl
 filter_same p q (g ∷ gs) same = rw (same g, filter_same p q gs same) refl
 
-abbrev made : Option Text → List Goal → Bool → Option Text → Bool → Option Text → Option Text → Bool → GivenData
-made n g b l v s m c = record { name = n; goals = g; both_modes = b; limit = l; verbose = v; stages = s; make = m; convert = c }
+abbrev made : Option Text → List Goal → Bool → Option Text → Bool → Option Text → Option Text → Bool → Bool → GivenData
+made n g b l v s m c u = record { name = n; goals = g; both_modes = b; limit = l; verbose = v; stages = s; make = m; convert = c; units = u }
 
 pub given_for : (parts : List Part) → given_in (rows_for parts) ≡ given_by parts
 given_for parts =
@@ -220,7 +222,8 @@ given_for parts =
     let primal : is_on (goal_word PrimalMode) (rows_for parts) ≡ is_some (given (goal_word PrimalMode) parts) = on_for (OfGoal PrimalMode) parts in
     let verbose : is_on (flag_word Verbose) (rows_for parts) ≡ is_some (given (flag_word Verbose) parts) = on_for Verbose parts in
     let convert : is_on (flag_word Convert) (rows_for parts) ≡ is_some (given (flag_word Convert) parts) = on_for Convert parts in
-    same_data _ _ _ _ _ _ _ _ _ _ _ _ _ _ _ _ name goals (ap₂ (λ (a b : Bool). a && b) dual primal) limit verbose stages make convert
+    let units : is_on (flag_word Units) (rows_for parts) ≡ is_some (given (flag_word Units) parts) = on_for Units parts in
+    same_data _ _ _ _ _ _ _ _ _ _ _ _ _ _ _ _ _ _ name goals (ap₂ (λ (a b : Bool). a && b) dual primal) limit verbose stages make convert units
   where
-    same_data : (n n' : Option Text) (g g' : List Goal) (b b' : Bool) (l l' : Option Text) (v v' : Bool) (s s' m m' : Option Text) (c c' : Bool) → n ≡ n' → g ≡ g' → b ≡ b' → l ≡ l' → v ≡ v' → s ≡ s' → m ≡ m' → c ≡ c' → made n g b l v s m c ≡ made n' g' b' l' v' s' m' c'
-    same_data n n' g g' b b' l l' v v' s s' m m' c c' en eg eb el ev es em ec = rw (en, eg, eb, el, ev, es, em, ec) refl
+    same_data : (n n' : Option Text) (g g' : List Goal) (b b' : Bool) (l l' : Option Text) (v v' : Bool) (s s' m m' : Option Text) (c c' u u' : Bool) → n ≡ n' → g ≡ g' → b ≡ b' → l ≡ l' → v ≡ v' → s ≡ s' → m ≡ m' → c ≡ c' → u ≡ u' → made n g b l v s m c u ≡ made n' g' b' l' v' s' m' c' u'
+    same_data n n' g g' b b' l l' v v' s s' m m' c c' u u' en eg eb el ev es em ec eu = rw (en, eg, eb, el, ev, es, em, ec, eu) refl

@@ -10,7 +10,7 @@ use Rattle.clap.specs.declared.error.kind.ErrorKind.TheVariants as kind
 use Rattle.clap.proofs.OnLiterals.{clap_on_literals}
 use Rattle.nz_vec.specs.Texts.{Text}
 use Rattle.nz_input.specs.declared.kind.Goal.TheVariants.{HilbertBasis, ExtremeRays, SupportHyperplanes, Deg1Elements, ModuleGenerators, Triangulation, DualMode, PrimalMode}
-use Rattle.nz_words.specs.Parts.{Flag, OfGoal, Verbose, Convert, Setting, Limit, Stages, Make, flag_word, setting_word, hyphens}
+use Rattle.nz_words.specs.Parts.{Flag, OfGoal, Verbose, Convert, Units, Setting, Limit, Stages, Make, flag_word, setting_word, hyphens}
 use Rattle.nz_words.proofs.Walking.{filled, filled_flag, filled_setting, shape, Pending, nothing, value_waits, name_waits, pending_of, held_at, open_at, waits_at, ended_at}
 
 -- the kinds of what waits
@@ -31,6 +31,7 @@ flag_turn (OfGoal DualMode) rows p k = refl
 flag_turn (OfGoal PrimalMode) rows p k = refl
 flag_turn Verbose rows p k = refl
 flag_turn Convert rows p k = refl
+flag_turn Units rows p k = refl
 
 pub flag_walk : (f : Flag) (rows : List Row) (p : Pending) (k : ℕ) → walked filled [] (open_at rows p k) (hyphens ++ flag_word f) ≡ open_at (used (filled_flag (flag_word f)) [] (settled_rows filled (pending_of p) rows)) nothing k
 unfolding clap_on_literals
@@ -44,6 +45,7 @@ flag_walk (OfGoal DualMode) rows p k = refl
 flag_walk (OfGoal PrimalMode) rows p k = refl
 flag_walk Verbose rows p k = refl
 flag_walk Convert rows p k = refl
+flag_walk Units rows p k = refl
 
 -- a flag takes no value
 pub flag_value : (f : Flag) (w v : Text) (rows : List Row) (p : Pending) (k : ℕ) → bytes_eq w hyphens ≡ false → long_of w ≡ Some (flag_word f, Some v) → turn_fault shape [] (open_at rows p k) w ≡ kind.TooManyValues ∷ []
@@ -58,6 +60,7 @@ flag_value (OfGoal DualMode) w v rows p k h e = rw (h, e) refl
 flag_value (OfGoal PrimalMode) w v rows p k h e = rw (h, e) refl
 flag_value Verbose w v rows p k h e = rw (h, e) refl
 flag_value Convert w v rows p k h e = rw (h, e) refl
+flag_value Units w v rows p k h e = rw (h, e) refl
 
 -- ---- an option with a value
 

@@ -22,11 +22,11 @@ optional_one : (low high : ℕ) (text : Option Text) (m n : Option ℕ) → IsOp
 optional_one low high None m n h k = h ∙ sym k
 optional_one low high (Some t) m n h k = h.1 ∙ ap (λ (i : ℕ). Some i) (h.2.value ∙ sym k.2.value) ∙ sym k.1
 
-abbrev made : Text → List Goal → ℕ → Bool → Option ℕ → Option ℕ → Bool → OrderData
-made p g l v s m c = record { project = p; goals = g; limit = l; verbose = v; stages = s; make = m; convert = c }
+abbrev made : Text → List Goal → ℕ → Bool → Option ℕ → Option ℕ → Bool → Bool → OrderData
+made p g l v s m c u = record { project = p; goals = g; limit = l; verbose = v; stages = s; make = m; convert = c; units = u }
 
-made_same : (p p' : Text) (g g' : List Goal) (l l' : ℕ) (v v' : Bool) (s s' m m' : Option ℕ) (c c' : Bool) → p ≡ p' → g ≡ g' → l ≡ l' → v ≡ v' → s ≡ s' → m ≡ m' → c ≡ c' → made p g l v s m c ≡ made p' g' l' v' s' m' c'
-made_same p p' g g' l l' v v' s s' m m' c c' ep eg el ev es em ec = rw (ep, eg, el, ev, es, em, ec) refl
+made_same : (p p' : Text) (g g' : List Goal) (l l' : ℕ) (v v' : Bool) (s s' m m' : Option ℕ) (c c' u u' : Bool) → p ≡ p' → g ≡ g' → l ≡ l' → v ≡ v' → s ≡ s' → m ≡ m' → c ≡ c' → u ≡ u' → made p g l v s m c u ≡ made p' g' l' v' s' m' c' u'
+made_same p p' g g' l l' v v' s s' m m' c c' u u' ep eg el ev es em ec eu = rw (ep, eg, el, ev, es, em, ec, eu) refl
 
 some_text : (a b : Text) → Some a ≡ Some b → a ≡ b
 some_text a b e = cc
@@ -34,7 +34,7 @@ some_text a b e = cc
 given_one : (g : GivenData) (a b : OrderData) → IsOrderOf g a → IsOrderOf g b → a ≡ b
 given_one g a b h k =
     let word : k.word ≡ h.word = some_text k.word h.word (sym k.named ∙ h.named) in
-    made_same a.project b.project a.goals b.goals a.limit b.limit a.verbose b.verbose a.stages b.stages a.make b.make a.convert b.convert
+    made_same a.project b.project a.goals b.goals a.limit b.limit a.verbose b.verbose a.stages b.stages a.make b.make a.convert b.convert a.units b.units
     (names_one h.word a.project b.project h.names.names (subst (λ (w : Text). Names w b.project) word k.names.names))
     (h.goals ∙ sym k.goals)
     (limit_one g.limit a.limit b.limit h.limit k.limit)
@@ -42,6 +42,7 @@ given_one g a b h k =
     (optional_one 0 1000000 g.stages a.stages b.stages h.stages k.stages)
     (optional_one 1 150 g.make a.make b.make h.make k.make)
     (h.convert ∙ sym k.convert)
+    (h.units ∙ sym k.units)
 
 pub order_one : (words : List Text) (a b : OrderData) → IsOrder words a → IsOrder words b → a ≡ b
 order_one words a b h k = given_one (given_in (matches_of command_app words)) a b (ordered_is_found words a h).1 (ordered_is_found words b k).1

@@ -12,7 +12,7 @@ use Rattle.clap.specs.declared.builder.value_parser.Reading.TheVariants as readi
 use Rattle.clap.specs.declared.parser.matches.ValueSource.TheVariants.{CommandLine}
 use Rattle.nz_vec.specs.Texts.{Text}
 use Rattle.nz_input.specs.declared.kind.Goal.TheVariants.{HilbertBasis, ExtremeRays, SupportHyperplanes, Deg1Elements, ModuleGenerators, Triangulation, DualMode, PrimalMode}
-use Rattle.nz_words.specs.Parts.{Flag, OfGoal, Verbose, Convert, Setting, Limit, Stages, Make, Part, Valued, Named, flag_word, setting_word, hyphens, label_of, value_of}
+use Rattle.nz_words.specs.Parts.{Flag, OfGoal, Verbose, Convert, Units, Setting, Limit, Stages, Make, Part, Valued, Named, flag_word, setting_word, hyphens, label_of, value_of}
 use Rattle.nz_words.specs.Rules.{flag_rule, setting_rule, name_rule, command_app}
 
 -- ---- the command as it is built
@@ -61,6 +61,7 @@ keys =
     ∷ on (OfGoal PrimalMode)
     ∷ on Verbose
     ∷ on Convert
+    ∷ on Units
     ∷ set Limit
     ∷ set Stages
     ∷ set Make
@@ -151,6 +152,7 @@ long_flag (OfGoal DualMode) = refl
 long_flag (OfGoal PrimalMode) = refl
 long_flag Verbose = refl
 long_flag Convert = refl
+long_flag Units = refl
 
 pub long_setting : (o : Setting) → long_of (hyphens ++ setting_word o) ≡ Some (setting_word o, None)
 long_setting Limit = refl
@@ -173,6 +175,7 @@ flag_found (OfGoal DualMode) = refl
 flag_found (OfGoal PrimalMode) = refl
 flag_found Verbose = refl
 flag_found Convert = refl
+flag_found Units = refl
 
 pub setting_found : (o : Setting) → arg_by_long filled (setting_word o) ≡ Some (filled_setting (setting_word o))
 setting_found Limit = refl

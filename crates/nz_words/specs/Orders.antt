@@ -5,9 +5,10 @@ use Rattle.nz_vec.specs.Texts.{Text}
 use Rattle.nz_input.specs.declared.kind.Goal.{Goal}
 use Rattle.nz_input.specs.declared.kind.Goal.TheVariants.{HilbertBasis, ExtremeRays, SupportHyperplanes, Deg1Elements, ModuleGenerators, Triangulation, DualMode, PrimalMode}
 use Rattle.nz_input.specs.Words.{goal_word}
-use Rattle.nz_words.specs.Parts.{Part, given, flag_word, setting_word, Verbose, Convert, Limit, Stages, Make, AreRead, NoneTwice}
+use Rattle.nz_words.specs.Parts.{Part, given, flag_word, setting_word, Verbose, Convert, Units, Limit, Stages, Make, AreRead, NoneTwice}
 
--- an order: the project, the goals, the limit of the lists, whether each stage is printed, after how many the run stops, the side of the file that is made in the place of an input, and whether it is converted and not solved
+-- an order: the project, the goals, the limit of the lists, whether each stage is printed, after how many the run stops, the side of the file that is made
+-- in the place of an input, whether it is converted and not solved, and whether the units of its monoid are listed
 pub record OrderData : Type 0 where
   pub project : Text
   pub goals : List Goal
@@ -16,6 +17,7 @@ pub record OrderData : Type 0 where
   pub stages : Option ℕ
   pub make : Option ℕ
   pub convert : Bool
+  pub units : Bool
 
 -- what the words give, before it is judged
 pub record GivenData : Type 0 where
@@ -27,6 +29,7 @@ pub record GivenData : Type 0 where
   pub stages : Option Text
   pub make : Option Text
   pub convert : Bool
+  pub units : Bool
 
 -- all goals, in the order in which an order names them
 abbrev pub all_goals : List Goal
@@ -43,6 +46,7 @@ given_by parts = record {
   stages = given (setting_word Stages) parts;
   make = given (setting_word Make) parts;
   convert = is_some (given (flag_word Convert) parts);
+  units = is_some (given (flag_word Units) parts);
 }
 
 -- ---- the project
@@ -101,18 +105,24 @@ IsSide text n = IsOptional 1 150 text n
 
 -- ---- the order
 
--- the order that is given: one name of a project, not both modes, and values within their bounds
+-- two of the flags that name a kind of run are given
+abbrev pub two_kinds : GivenData → Bool
+two_kinds data_given = data_given.convert && data_given.units
+
+-- the order that is given: one name of a project, not both modes, one kind of run at most, and values within their bounds
 pub record IsOrderOf (data_given : GivenData) (order : OrderData) : Type 0 where
   pub word : Text
   pub named : data_given.name ≡ Some word
   pub names : IsNameOf word order.project
   pub goals : order.goals ≡ data_given.goals
   pub one_mode : data_given.both_modes ≡ false
+  pub one_kind : two_kinds data_given ≡ false
   pub limit : IsLimit data_given.limit order.limit
   pub verbose : order.verbose ≡ data_given.verbose
   pub stages : AreStages data_given.stages order.stages
   pub make : IsSide data_given.make order.make
   pub convert : order.convert ≡ data_given.convert
+  pub units : order.units ≡ data_given.units
 
 -- the words order this
 pub record IsOrder (words : List Text) (order : OrderData) : Type 0 where

@@ -11,11 +11,12 @@ use Rattle.nz_input.specs.Words.{goal_word}
 abbrev pub bytes_of_each : List (String Global) → List Text
 bytes_of_each words = map (λ (word : String Global). string_bytes word) words
 
--- a flag: a goal, that each stage is printed, or that the input is converted
+-- a flag: a goal, that each stage is printed, that the input is converted, or that the units of its monoid are listed
 pub data Flag : Type 0 where
   OfGoal : Goal → Flag
   Verbose : Flag
   Convert : Flag
+  Units : Flag
 
 -- an option with a value
 pub data Setting : Type 0 where
@@ -34,6 +35,7 @@ abbrev pub flag_word : Flag → Text
 flag_word (OfGoal g) = goal_word g
 flag_word Verbose = codes "Verbose"
 flag_word Convert = codes "Convert"
+flag_word Units = codes "Units"
 
 -- the word of an option, behind its two hyphens
 abbrev pub setting_word : Setting → Text

@@ -9,7 +9,7 @@ use Rattle.nz_vec.specs.Texts.{Text}
 use Rattle.nz_input.specs.declared.kind.Goal.{Goal}
 use Rattle.nz_input.specs.declared.kind.Goal.TheVariants.{DualMode, PrimalMode}
 use Rattle.nz_input.specs.Words.{goal_word}
-use Rattle.nz_words.specs.Parts.{Flag, flag_word, Verbose, Convert, setting_word, Limit, Stages, Make}
+use Rattle.nz_words.specs.Parts.{Flag, flag_word, Verbose, Convert, Units, setting_word, Limit, Stages, Make}
 use Rattle.nz_words.specs.Orders.{GivenData, all_goals}
 
 -- a flag of the command
@@ -37,6 +37,7 @@ all_rules =
     ∷ flag_rule (codes "PrimalMode")
     ∷ flag_rule (codes "Verbose")
     ∷ flag_rule (codes "Convert")
+    ∷ flag_rule (codes "Units")
     ∷ setting_rule (codes "Limit")
     ∷ setting_rule (codes "Stages")
     ∷ setting_rule (codes "Make")
@@ -65,6 +66,7 @@ given_in rows = record {
   stages = first_of (setting_word Stages) rows;
   make = first_of (setting_word Make) rows;
   convert = is_on (flag_word Convert) rows;
+  units = is_on (flag_word Units) rows;
 }
 
 -- the flag is true or false

@@ -58,6 +58,7 @@ pub(crate) fn command<'a>(alloc: Global) -> Result<Command<'a>, NoMemory>
     let made = with(made, flag(alloc, "PrimalMode"))?;
     let made = with(made, flag(alloc, "Verbose"))?;
     let made = with(made, flag(alloc, "Convert"))?;
+    let made = with(made, flag(alloc, "Units"))?;
     let made = with(made, setting(alloc, "Limit"))?;
     let made = with(made, setting(alloc, "Stages"))?;
     let made = with(made, setting(alloc, "Make"))?;

@@ -91,6 +91,9 @@ pub(crate) fn order_of(alloc: Global, given: Given<'_>) -> Result<RunOrder, Word
     if given.both_modes {
         return Err(WordsRefusal::Usage);
     }
+    if given.convert && given.units {
+        return Err(WordsRefusal::Usage);
+    }
     let limit = match limit_of(given.limit) {
         Some(limit) => limit,
         None => return Err(WordsRefusal::Usage),
@@ -112,6 +115,7 @@ pub(crate) fn order_of(alloc: Global, given: Given<'_>) -> Result<RunOrder, Word
             stages,
             make,
             convert: given.convert,
+            units: given.units,
         }),
         Err(_) => Err(WordsRefusal::NoMemory),
     }

@@ -34,8 +34,10 @@ pub struct RunOrder {
     pub stages: Option<u64>,
     /// The side of the file that is made in the place of an input, from 1 to 150, where one is to be made.
     pub make: Option<u32>,
-    /// Whether the input's file is only written again, as its canonical text, and not solved.
+    /// Whether the input's file is only written again, as its canonical text, and not solved. Never with `units`.
     pub convert: bool,
+    /// Whether the units of the monoid and its irreducible classes are listed.
+    pub units: bool,
 }
 
 impl Model for RunOrder {
@@ -51,6 +53,7 @@ impl Model for RunOrder {
       stages = o.stages;
       make = o.make;
       convert = o.convert;
+      units = o.units;
     } };
 }
 

@@ -23,6 +23,7 @@ pub(crate) struct Given<'a> {
     pub stages: Option<&'a str>,
     pub make: Option<&'a str>,
     pub convert: bool,
+    pub units: bool,
 }
 
 impl<'a> Model for Given<'a> {
@@ -40,6 +41,7 @@ impl<'a> Model for Given<'a> {
       stages = option_map (λ text. text.now) g.stages;
       make = option_map (λ text. text.now) g.make;
       convert = g.convert;
+      units = g.units;
     } };
 }
 
@@ -126,5 +128,6 @@ pub(crate) fn all_given<'a>(alloc: Global, matches: &ArgMatches<'a>) -> Result<G
         stages: value(matches, "Stages"),
         make: value(matches, "Make"),
         convert: flag(matches, "Convert"),
+        units: flag(matches, "Units"),
     })
 }

@@ -3,7 +3,7 @@ use Rattle.std.specs.Prelude.{codes, decimal}
 use Rattle.nz_vec.specs.Texts.{Text}
 use Rattle.nz_blocks.specs.Lines.{line}
 use Rattle.nz_run.specs.Statuses.{rule_name, place_line, entries_line, status_line}
-use Rattle.nz_run.specs.declared.status.Status.TheVariants.{Usage, Absent, ReadFault, TooLong, Range, TooMany, WriteFault, NoMemory, Converted}
+use Rattle.nz_run.specs.declared.status.Status.TheVariants.{Usage, Absent, ReadFault, TooLong, Range, TooMany, WriteFault, NoMemory, Converted, UnitsDone}
 use Rattle.nz_run.proofs.Pieces.{put_same}
 use Rattle.nz_run.proofs.status_lines.put_status.Goals as goal
 
@@ -45,6 +45,10 @@ returns-in-NoMemory-clause-written g c =
 pub returns-in-Converted-clause-written : goal.returns-in-Converted-clause-written
 returns-in-Converted-clause-written g c =
     put_same (status_line Converted) (status_line c.args.status.now) c.put_all-in-Converted.result (g.S.Sink.written c.args.console.now) (g.S.Sink.written c.put_all-in-Converted.new.sink) (ap status_line (sym c.in-Converted.is)) c.put_all-in-Converted.ensures.written
+
+pub returns-in-UnitsDone-clause-written : goal.returns-in-UnitsDone-clause-written
+returns-in-UnitsDone-clause-written g c =
+    put_same (status_line UnitsDone) (status_line c.args.status.now) c.put_all-in-UnitsDone.result (g.S.Sink.written c.args.console.now) (g.S.Sink.written c.put_all-in-UnitsDone.new.sink) (ap status_line (sym c.in-UnitsDone.is)) c.put_all-in-UnitsDone.ensures.written
 
 pub returns-in-Range-clause-written : goal.returns-in-Range-clause-written
 returns-in-Range-clause-written g c =
