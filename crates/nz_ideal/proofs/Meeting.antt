@@ -285,7 +285,7 @@ ideal-clear file goals f e =
     (both-empty (plain.item_refusals true (first_item ∷ []) second_item) rest
     (rows-none kind.Cone 2 0 (count_rows (first_item ∷ [])) second_item.rows (omega (arith, few, parts, raised, units, high)) (cone-clear second_item.rows))
     (items-none [] (first_item ∷ second_item ∷ []) file.items refl items (omega (arith, few, parts, raised, units, high)))))
-    (rw (and-none goals.modules) (rw (staying-graded file.items) (ap (map (Meaning 0 0)) (append-nil (where_fails (goals.degree_one && not (occurs group.Grading file.items)) NoGrading)) ∙ goal)))
+    (rw (and-none (plain.wants_level goals)) (rw (staying-graded file.items) (ap (map (Meaning 0 0)) (append-nil (where_fails (goals.degree_one && not (occurs group.Grading file.items)) NoGrading)) ∙ goal)))
 
 -- ---- the meaning of a file
 

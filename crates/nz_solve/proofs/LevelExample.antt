@@ -147,7 +147,7 @@ zero_outside = record {
 
 -- ---- the outcome, in both modes
 abbrev pub basis_goal : GoalSet
-basis_goal = record { hilbert = true; rays = false; hyperplanes = false; degree_one = false; modules = false; cover = false }
+basis_goal = record { hilbert = true; rays = false; hyperplanes = false; degree_one = false; modules = false; cover = false; lattice_points = false }
 
 abbrev pub strict_outcome : OutcomeData
 strict_outcome = record {

@@ -1,5 +1,5 @@
 -- What the rows of a file that breaks no rule give has the width of the system.
-use Rattle.std.proofs.Common.{◌≡◌, ℕ, zero, suc, ◌+◌, ◌-◌, ◌≤◌, List, [], ◌∷◌, ◌++◌, length, refl, sym, ap, ◌∙◌, arith, Bool, true, false, None}
+use Rattle.std.proofs.Common.{◌≡◌, ℕ, zero, suc, ◌+◌, ◌-◌, ◌≤◌, List, [], ◌∷◌, ◌++◌, length, refl, sym, ap, ◌∙◌, arith, Bool, true, false, ◌||◌, None}
 use Rattle.std.proofs.lemmas.Int.{ints}
 use Rattle.std.specs.Prelude.{ℤ, pos, negsuc, ◌≤ℤ◌, IsTrue, not, ◌&&◌, ◌||◌, nat_lt, map, replicate, int_lt}
 use Rattle.std.specs.List.{flat_map}
@@ -18,7 +18,7 @@ use Rattle.nz_system.specs.declared.groups.Group.TheVariants as group
 use Rattle.nz_system.specs.declared.refusal.MeaningFault.TheVariants.{RowLimit, Modulus, Sign, Denominator, NoGrading, NoLevel}
 use Rattle.nz_system.specs.declared.refusal.SystemRefusal.TheVariants.{Meaning}
 use Rattle.nz_system.specs.Groups.{occurs, is_leveled}
-use Rattle.nz_system.specs.Rules.{row_faults, has_no_sign, has_low_denominator, rows_refusals, item_refusals, item_faults, count_rows, has_low_modulus, first, where_fails, goal_faults, items_refusals, refusals, forbids_lattice}
+use Rattle.nz_system.specs.Rules.{row_faults, has_no_sign, has_low_denominator, rows_refusals, item_refusals, item_faults, count_rows, has_low_modulus, first, where_fails, wants_level, goal_faults, items_refusals, refusals, forbids_lattice}
 use Rattle.nz_system.proofs.Ruling.{first-behind, none-front, map-none, passes, length-take}
 use Rattle.nz_system.specs.Meaning.{orthant, of_level, all_given, orthant_where, level_unit, level_where, width_of, zero_of, multiple_of, not_negative_of, generator_of, degree_of, asked_of}
 
@@ -167,13 +167,27 @@ implied true true e t = refl
 implied true false e t = absurd cc
 implied false b e t = absurd cc
 
--- module generators are asked with a level only
+-- module generators and lattice points are asked with a level only
+levelled : (file : FileData) (goals : GoalSet) → refusals file goals ≡ [] → IsTrue (wants_level goals) → IsTrue (occurs group.Leveled file.items)
+levelled file goals e = implied (wants_level goals) (occurs group.Leveled file.items) (passes (wants_level goals && not (occurs group.Leveled file.items)) NoLevel (tail-none (where_fails (goals.degree_one && not (occurs group.Grading file.items)) NoGrading) (where_fails (wants_level goals && not (occurs group.Leveled file.items)) NoLevel) (goals-clear file goals e)))
+
+first_true : (a b : Bool) → IsTrue a → IsTrue (a || b)
+first_true true b t = refl
+first_true false b t = absurd cc
+
+second_true : (a b : Bool) → IsTrue b → IsTrue (a || b)
+second_true true b t = refl
+second_true false b t = t
+
 pub modules-level : (file : FileData) (goals : GoalSet) → refusals file goals ≡ [] → IsTrue goals.modules → IsTrue (occurs group.Leveled file.items)
-modules-level file goals e = implied goals.modules (occurs group.Leveled file.items) (passes (goals.modules && not (occurs group.Leveled file.items)) NoLevel (tail-none (where_fails (goals.degree_one && not (occurs group.Grading file.items)) NoGrading) (where_fails (goals.modules && not (occurs group.Leveled file.items)) NoLevel) (goals-clear file goals e)))
+modules-level file goals e t = levelled file goals e (first_true goals.modules goals.lattice_points t)
+
+pub points-level : (file : FileData) (goals : GoalSet) → refusals file goals ≡ [] → IsTrue goals.lattice_points → IsTrue (occurs group.Leveled file.items)
+points-level file goals e t = levelled file goals e (second_true goals.modules goals.lattice_points t)
 
 -- elements of degree 1 are asked with a `grading` only
 pub degree-graded : (file : FileData) (goals : GoalSet) → refusals file goals ≡ [] → IsTrue goals.degree_one → IsTrue (occurs group.Grading file.items)
-degree-graded file goals e = implied goals.degree_one (occurs group.Grading file.items) (passes (goals.degree_one && not (occurs group.Grading file.items)) NoGrading (none-front (where_fails (goals.degree_one && not (occurs group.Grading file.items)) NoGrading) (where_fails (goals.modules && not (occurs group.Leveled file.items)) NoLevel) (goals-clear file goals e)))
+degree-graded file goals e = implied goals.degree_one (occurs group.Grading file.items) (passes (goals.degree_one && not (occurs group.Grading file.items)) NoGrading (none-front (where_fails (goals.degree_one && not (occurs group.Grading file.items)) NoGrading) (where_fails (wants_level goals && not (occurs group.Leveled file.items)) NoLevel) (goals-clear file goals e)))
 
 zeros-length : (n : ℕ) → length (zero_vector n) ≡ n
 zeros-length zero = refl

@@ -24,7 +24,7 @@ use Rattle.nz_system.specs.Contributions.{at_level, sign_forms, contributions, g
 use Rattle.nz_system.specs.Rules.{first, where_fails, is_repeated, is_mixed, item_faults, rows_refusals, count_rows, item_refusals, items_refusals, goal_faults, refusals, forbids_lattice}
 use Rattle.nz_system.specs.Meaning.{only_if, there, system_given, system_of, IsKept, orthant, orthant_where, of_level, all_given, level_unit, level_where, width_of, generator_of, lattice_of, degree_of, not_negative_of, asked_of}
 use Rattle.nz_system.proofs.Ruling.{none-front, map-none, passes}
-use Rattle.nz_system.proofs.Keeping.{tail-none, all-fit, zero-widths, multiple-widths, modulus-widths, not_negative-widths, generator-widths, degree-widths, no_level-degrees, asked-widths, modules-level, degree-graded}
+use Rattle.nz_system.proofs.Keeping.{points-level, tail-none, all-fit, zero-widths, multiple-widths, modulus-widths, not_negative-widths, generator-widths, degree-widths, no_level-degrees, asked-widths, modules-level, degree-graded}
 
 -- ---- a grading
 
@@ -221,6 +221,7 @@ kept file goals mode f e cover =
       };
       askable = record {
         modules = modules-level file goals e;
+        points = points-level file goals e;
         degree_one = λ t. file-degree file f (degree-graded file goals e t);
         cover = cover;
       };

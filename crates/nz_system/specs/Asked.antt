@@ -2,7 +2,7 @@
 use Rattle.std.specs.Prelude.{Bool, true, false, not, ◌||◌, List, [], ◌∷◌, ◌++◌, Option, Some, None}
 use Rattle.nz_input.specs.Files.{FileData}
 use Rattle.nz_input.specs.declared.kind.Goal.{Goal}
-use Rattle.nz_input.specs.declared.kind.Goal.TheVariants.{HilbertBasis, ExtremeRays, SupportHyperplanes, Deg1Elements, ModuleGenerators, Triangulation, DualMode, PrimalMode}
+use Rattle.nz_input.specs.declared.kind.Goal.TheVariants.{HilbertBasis, ExtremeRays, SupportHyperplanes, Deg1Elements, ModuleGenerators, Triangulation, DualMode, PrimalMode, LatticePoints}
 use Rattle.nz_input.specs.declared.kind.Mode.{Mode}
 use Rattle.nz_input.specs.declared.kind.Mode.TheVariants.{Primal, Dual}
 use Rattle.nz_system.specs.declared.asked.GoalSet.{GoalSet}
@@ -17,6 +17,7 @@ is_goal ModuleGenerators ModuleGenerators = true
 is_goal Triangulation Triangulation = true
 is_goal DualMode DualMode = true
 is_goal PrimalMode PrimalMode = true
+is_goal LatticePoints LatticePoints = true
 is_goal _ _ = false
 
 -- the goal word stands in the list
@@ -37,7 +38,7 @@ or_else None other = other
 
 -- no word but modes
 abbrev pub names_no_block : List Goal → Bool
-names_no_block goals = not (names HilbertBasis goals || names ExtremeRays goals || names SupportHyperplanes goals || names Deg1Elements goals || names ModuleGenerators goals || names Triangulation goals)
+names_no_block goals = not (names HilbertBasis goals || names ExtremeRays goals || names SupportHyperplanes goals || names Deg1Elements goals || names ModuleGenerators goals || names Triangulation goals || names LatticePoints goals)
 
 -- a goal is on where its word stands; where none but modes stands, the Hilbert basis is on
 abbrev pub goal_set : List Goal → GoalSet
@@ -48,6 +49,7 @@ goal_set goals = record {
   degree_one = names Deg1Elements goals;
   modules = names ModuleGenerators goals;
   cover = names Triangulation goals;
+  lattice_points = names LatticePoints goals;
 }
 
 -- the last mode that is named

@@ -147,9 +147,10 @@ congruences_of (IsMultiple f m ∷ cs) = record { form = f; modulus = m } ∷ co
 congruences_of (IsZero f ∷ cs) = congruences_of cs
 congruences_of (IsNotNegative f ∷ cs) = congruences_of cs
 
--- module generators are asked with a level only, elements of degree 1 with a grading only, and a cover in primal mode only
+-- module generators and lattice points are asked with a level only, elements of degree 1 with a grading only, and a cover in primal mode only
 pub record IsAskable (s : SystemData) : Type 0 where
   pub modules : IsTrue s.goals.modules → IsTrue s.system.level
+  pub points : IsTrue s.goals.lattice_points → IsTrue s.system.level
   pub degree_one : IsTrue s.goals.degree_one → IsSome s.system.grading
   pub cover : IsTrue s.goals.cover → s.mode ≡ Primal
 

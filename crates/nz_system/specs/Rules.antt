@@ -99,9 +99,13 @@ items_refusals forbidden before (item ∷ items) = item_refusals forbidden befor
 
 -- ---- a file
 
--- elements of degree 1 want a grading, and module generators a level
+-- module generators or lattice points are asked
+abbrev pub wants_level : GoalSet → Bool
+wants_level goals = goals.modules || goals.lattice_points
+
+-- elements of degree 1 want a grading, and module generators and lattice points a level
 abbrev pub goal_faults : List ItemData → GoalSet → List MeaningFault
-goal_faults items goals = where_fails (goals.degree_one && not (occurs group.Grading items)) NoGrading ++ where_fails (goals.modules && not (occurs group.Leveled items)) NoLevel
+goal_faults items goals = where_fails (goals.degree_one && not (occurs group.Grading items)) NoGrading ++ where_fails (wants_level goals && not (occurs group.Leveled items)) NoLevel
 
 -- every rule that fails, in the order in which they are reported: by item, by row, and at one row by the order above; those on goals come last
 abbrev pub refusals : FileData → GoalSet → List SystemRefusal

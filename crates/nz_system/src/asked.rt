@@ -19,6 +19,8 @@ pub struct GoalSet {
     pub modules: bool,
     /// A cover by simplices.
     pub cover: bool,
+    /// The lattice points of a bounded polyhedron: a run of its own lists them, and no other list is made.
+    pub lattice_points: bool,
 }
 
 fn is_goal(goal: Goal, other: Goal) -> bool
@@ -57,6 +59,10 @@ fn is_goal(goal: Goal, other: Goal) -> bool
             Goal::PrimalMode => true,
             _ => false,
         },
+        Goal::LatticePoints => match other {
+            Goal::LatticePoints => true,
+            _ => false,
+        },
     }
 }
 
@@ -93,7 +99,8 @@ pub fn goal_set(first: &Goals, second: &Goals) -> GoalSet
     let degree_one = either_names(Goal::Deg1Elements, first, second);
     let modules = either_names(Goal::ModuleGenerators, first, second);
     let cover = either_names(Goal::Triangulation, first, second);
-    let other = hilbert || rays || hyperplanes || degree_one || modules || cover;
+    let lattice_points = either_names(Goal::LatticePoints, first, second);
+    let other = hilbert || rays || hyperplanes || degree_one || modules || cover || lattice_points;
     GoalSet {
         hilbert: hilbert || !other,
         rays,
@@ -101,6 +108,7 @@ pub fn goal_set(first: &Goals, second: &Goals) -> GoalSet
         degree_one,
         modules,
         cover,
+        lattice_points,
     }
 }
 

@@ -146,7 +146,7 @@ fn goal_fault(level: bool, graded: bool, goals: GoalSet) -> Option<MeaningFault>
 {
     if goals.degree_one && !graded {
         Some(MeaningFault::NoGrading)
-    } else if goals.modules && !level {
+    } else if (goals.modules || goals.lattice_points) && !level {
         Some(MeaningFault::NoLevel)
     } else {
         None

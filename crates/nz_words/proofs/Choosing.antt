@@ -18,7 +18,7 @@ filter_more p (x ∷ xs) g = go (p x) (filter_more p xs g)
     go true e = ap (λ (ys : List Goal). x ∷ ys) e
     go false e = e
 
-pub goals_more : (p : Goal → Bool) (k : ℕ) (d : Goal) (b : Bool) (old new : List Goal) → k < 8 → b ≡ p (get_or all_goals k d) → old ≡ filter p (take k all_goals) → new ≡ old ++ only_where b (get_or all_goals k d) → new ≡ filter p (take (k + 1) all_goals)
+pub goals_more : (p : Goal → Bool) (k : ℕ) (d : Goal) (b : Bool) (old new : List Goal) → k < 9 → b ≡ p (get_or all_goals k d) → old ≡ filter p (take k all_goals) → new ≡ old ++ only_where b (get_or all_goals k d) → new ≡ filter p (take (k + 1) all_goals)
 goals_more p k d b old new lt eb eo en =
     let next : k + 1 ≡ suc k = omega arith in
     let g = get_or all_goals k d in

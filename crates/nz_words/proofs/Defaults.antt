@@ -13,7 +13,7 @@ use Rattle.clap.specs.declared.builder.value_parser.Reading.{Reading}
 use Rattle.clap.proofs.WalkLemmas.{find-map}
 use Rattle.nz_vec.specs.Texts.{Text}
 use Rattle.nz_input.specs.declared.kind.Goal.{Goal}
-use Rattle.nz_input.specs.declared.kind.Goal.TheVariants.{HilbertBasis, ExtremeRays, SupportHyperplanes, Deg1Elements, ModuleGenerators, Triangulation, DualMode, PrimalMode}
+use Rattle.nz_input.specs.declared.kind.Goal.TheVariants.{HilbertBasis, ExtremeRays, SupportHyperplanes, Deg1Elements, ModuleGenerators, Triangulation, DualMode, PrimalMode, LatticePoints}
 use Rattle.nz_input.specs.Words.{goal_word}
 use Rattle.nz_words.specs.Parts.{Flag, OfGoal, Verbose, Convert, Units, Limit, Stages, Make, Part, Flagged, Valued, Named, flag_word, setting_word, label_of, value_of, given}
 use Rattle.nz_words.specs.Orders.{GivenData, given_by, all_goals}
@@ -151,6 +151,7 @@ no_other (OfGoal ModuleGenerators) = record { limit = refl; stages = refl; make 
 no_other (OfGoal Triangulation) = record { limit = refl; stages = refl; make = refl; project = refl }
 no_other (OfGoal DualMode) = record { limit = refl; stages = refl; make = refl; project = refl }
 no_other (OfGoal PrimalMode) = record { limit = refl; stages = refl; make = refl; project = refl }
+no_other (OfGoal LatticePoints) = record { limit = refl; stages = refl; make = refl; project = refl }
 no_other Verbose = record { limit = refl; stages = refl; make = refl; project = refl }
 no_other Convert = record { limit = refl; stages = refl; make = refl; project = refl }
 no_other Units = record { limit = refl; stages = refl; make = refl; project = refl }
@@ -164,6 +165,7 @@ one_default (OfGoal ModuleGenerators) = refl
 one_default (OfGoal Triangulation) = refl
 one_default (OfGoal DualMode) = refl
 one_default (OfGoal PrimalMode) = refl
+one_default (OfGoal LatticePoints) = refl
 one_default Verbose = refl
 one_default Convert = refl
 one_default Units = refl

@@ -5,7 +5,7 @@ use Rattle.std.proofs.lemmas.List.{append-nil}
 use Rattle.clap.specs.Walk.{Row, Walk, settled_rows, walked}
 use Rattle.clap.specs.Faults.{turn_fault, walk_fault}
 use Rattle.nz_vec.specs.Texts.{Text}
-use Rattle.nz_input.specs.declared.kind.Goal.TheVariants.{HilbertBasis, ExtremeRays, SupportHyperplanes, Deg1Elements, ModuleGenerators, Triangulation, DualMode, PrimalMode}
+use Rattle.nz_input.specs.declared.kind.Goal.TheVariants.{HilbertBasis, ExtremeRays, SupportHyperplanes, Deg1Elements, ModuleGenerators, Triangulation, DualMode, PrimalMode, LatticePoints}
 use Rattle.nz_words.specs.Parts.{Flag, OfGoal, Verbose, Convert, Units, Setting, Limit, Stages, Make, Part, Flagged, Valued, Named, flag_word, setting_word, hyphens, label_of, given, AreRead, HaveEnded}
 use Rattle.nz_words.proofs.Walking.{filled, shape, row_of, Pending, nothing, value_waits, name_waits, parts_of, pending_of, open_at, waits_at, ended_at, none_both, again_not, used_new}
 use Rattle.nz_words.proofs.Steps.{IsPlain, flag_turn, flag_walk, joined_turn, joined_walk, waits_turn, waits_walk, value_turn, value_walk, name_turn, name_walk, end_turn, end_walk, behind_turn, behind_walk}
@@ -75,6 +75,7 @@ flag_no_name (OfGoal ModuleGenerators) = refl
 flag_no_name (OfGoal Triangulation) = refl
 flag_no_name (OfGoal DualMode) = refl
 flag_no_name (OfGoal PrimalMode) = refl
+flag_no_name (OfGoal LatticePoints) = refl
 flag_no_name Verbose = refl
 flag_no_name Convert = refl
 flag_no_name Units = refl

@@ -9,7 +9,7 @@ use Rattle.clap.specs.Kinds.{Kinds, or_else}
 use Rattle.clap.specs.declared.error.kind.ErrorKind.TheVariants as kind
 use Rattle.clap.proofs.OnLiterals.{clap_on_literals}
 use Rattle.nz_vec.specs.Texts.{Text}
-use Rattle.nz_input.specs.declared.kind.Goal.TheVariants.{HilbertBasis, ExtremeRays, SupportHyperplanes, Deg1Elements, ModuleGenerators, Triangulation, DualMode, PrimalMode}
+use Rattle.nz_input.specs.declared.kind.Goal.TheVariants.{HilbertBasis, ExtremeRays, SupportHyperplanes, Deg1Elements, ModuleGenerators, Triangulation, DualMode, PrimalMode, LatticePoints}
 use Rattle.nz_words.specs.Parts.{Flag, OfGoal, Verbose, Convert, Units, Setting, Limit, Stages, Make, flag_word, setting_word, hyphens}
 use Rattle.nz_words.proofs.Walking.{filled, filled_flag, filled_setting, shape, Pending, nothing, value_waits, name_waits, pending_of, held_at, open_at, waits_at, ended_at}
 
@@ -29,6 +29,7 @@ flag_turn (OfGoal ModuleGenerators) rows p k = refl
 flag_turn (OfGoal Triangulation) rows p k = refl
 flag_turn (OfGoal DualMode) rows p k = refl
 flag_turn (OfGoal PrimalMode) rows p k = refl
+flag_turn (OfGoal LatticePoints) rows p k = refl
 flag_turn Verbose rows p k = refl
 flag_turn Convert rows p k = refl
 flag_turn Units rows p k = refl
@@ -43,6 +44,7 @@ flag_walk (OfGoal ModuleGenerators) rows p k = refl
 flag_walk (OfGoal Triangulation) rows p k = refl
 flag_walk (OfGoal DualMode) rows p k = refl
 flag_walk (OfGoal PrimalMode) rows p k = refl
+flag_walk (OfGoal LatticePoints) rows p k = refl
 flag_walk Verbose rows p k = refl
 flag_walk Convert rows p k = refl
 flag_walk Units rows p k = refl
@@ -58,6 +60,7 @@ flag_value (OfGoal ModuleGenerators) w v rows p k h e = rw (h, e) refl
 flag_value (OfGoal Triangulation) w v rows p k h e = rw (h, e) refl
 flag_value (OfGoal DualMode) w v rows p k h e = rw (h, e) refl
 flag_value (OfGoal PrimalMode) w v rows p k h e = rw (h, e) refl
+flag_value (OfGoal LatticePoints) w v rows p k h e = rw (h, e) refl
 flag_value Verbose w v rows p k h e = rw (h, e) refl
 flag_value Convert w v rows p k h e = rw (h, e) refl
 flag_value Units w v rows p k h e = rw (h, e) refl

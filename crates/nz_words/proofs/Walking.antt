@@ -11,7 +11,7 @@ use Rattle.clap.specs.declared.builder.value_parser.ValueParser.TheVariants as v
 use Rattle.clap.specs.declared.builder.value_parser.Reading.TheVariants as reading
 use Rattle.clap.specs.declared.parser.matches.ValueSource.TheVariants.{CommandLine}
 use Rattle.nz_vec.specs.Texts.{Text}
-use Rattle.nz_input.specs.declared.kind.Goal.TheVariants.{HilbertBasis, ExtremeRays, SupportHyperplanes, Deg1Elements, ModuleGenerators, Triangulation, DualMode, PrimalMode}
+use Rattle.nz_input.specs.declared.kind.Goal.TheVariants.{HilbertBasis, ExtremeRays, SupportHyperplanes, Deg1Elements, ModuleGenerators, Triangulation, DualMode, PrimalMode, LatticePoints}
 use Rattle.nz_words.specs.Parts.{Flag, OfGoal, Verbose, Convert, Units, Setting, Limit, Stages, Make, Part, Valued, Named, flag_word, setting_word, hyphens, label_of, value_of}
 use Rattle.nz_words.specs.Rules.{flag_rule, setting_rule, name_rule, command_app}
 
@@ -59,6 +59,7 @@ keys =
     ∷ on (OfGoal Triangulation)
     ∷ on (OfGoal DualMode)
     ∷ on (OfGoal PrimalMode)
+    ∷ on (OfGoal LatticePoints)
     ∷ on Verbose
     ∷ on Convert
     ∷ on Units
@@ -150,6 +151,7 @@ long_flag (OfGoal ModuleGenerators) = refl
 long_flag (OfGoal Triangulation) = refl
 long_flag (OfGoal DualMode) = refl
 long_flag (OfGoal PrimalMode) = refl
+long_flag (OfGoal LatticePoints) = refl
 long_flag Verbose = refl
 long_flag Convert = refl
 long_flag Units = refl
@@ -173,6 +175,7 @@ flag_found (OfGoal ModuleGenerators) = refl
 flag_found (OfGoal Triangulation) = refl
 flag_found (OfGoal DualMode) = refl
 flag_found (OfGoal PrimalMode) = refl
+flag_found (OfGoal LatticePoints) = refl
 flag_found Verbose = refl
 flag_found Convert = refl
 flag_found Units = refl

@@ -3,7 +3,7 @@ use Rattle.std.specs.Prelude.{◌≡◌, ◌≢◌, ◌⊎◌, ℕ, ◌<◌, ◌
 use Rattle.std.specs.Str.Parse.{IsNumeral, digits_value}
 use Rattle.nz_vec.specs.Texts.{Text}
 use Rattle.nz_input.specs.declared.kind.Goal.{Goal}
-use Rattle.nz_input.specs.declared.kind.Goal.TheVariants.{HilbertBasis, ExtremeRays, SupportHyperplanes, Deg1Elements, ModuleGenerators, Triangulation, DualMode, PrimalMode}
+use Rattle.nz_input.specs.declared.kind.Goal.TheVariants.{HilbertBasis, ExtremeRays, SupportHyperplanes, Deg1Elements, ModuleGenerators, Triangulation, DualMode, PrimalMode, LatticePoints}
 use Rattle.nz_input.specs.Words.{goal_word}
 use Rattle.nz_words.specs.Parts.{Part, given, flag_word, setting_word, Verbose, Convert, Units, Limit, Stages, Make, AreRead, NoneTwice}
 
@@ -33,7 +33,7 @@ pub record GivenData : Type 0 where
 
 -- all goals, in the order in which an order names them
 abbrev pub all_goals : List Goal
-all_goals = HilbertBasis ∷ ExtremeRays ∷ SupportHyperplanes ∷ Deg1Elements ∷ ModuleGenerators ∷ Triangulation ∷ DualMode ∷ PrimalMode ∷ []
+all_goals = HilbertBasis ∷ ExtremeRays ∷ SupportHyperplanes ∷ Deg1Elements ∷ ModuleGenerators ∷ Triangulation ∷ DualMode ∷ PrimalMode ∷ LatticePoints ∷ []
 
 -- what the parts give
 abbrev pub given_by : List Part → GivenData

@@ -35,6 +35,7 @@ all_rules =
     ∷ flag_rule (codes "Triangulation")
     ∷ flag_rule (codes "DualMode")
     ∷ flag_rule (codes "PrimalMode")
+    ∷ flag_rule (codes "LatticePoints")
     ∷ flag_rule (codes "Verbose")
     ∷ flag_rule (codes "Convert")
     ∷ flag_rule (codes "Units")

@@ -56,6 +56,7 @@ pub(crate) fn command<'a>(alloc: Global) -> Result<Command<'a>, NoMemory>
     let made = with(made, flag(alloc, "Triangulation"))?;
     let made = with(made, flag(alloc, "DualMode"))?;
     let made = with(made, flag(alloc, "PrimalMode"))?;
+    let made = with(made, flag(alloc, "LatticePoints"))?;
     let made = with(made, flag(alloc, "Verbose"))?;
     let made = with(made, flag(alloc, "Convert"))?;
     let made = with(made, flag(alloc, "Units"))?;

@@ -45,7 +45,7 @@ impl<'a> Model for Given<'a> {
     } };
 }
 
-const GOALS: [Goal; 8] = [
+const GOALS: [Goal; 9] = [
     Goal::HilbertBasis,
     Goal::ExtremeRays,
     Goal::SupportHyperplanes,
@@ -54,6 +54,7 @@ const GOALS: [Goal; 8] = [
     Goal::Triangulation,
     Goal::DualMode,
     Goal::PrimalMode,
+    Goal::LatticePoints,
 ];
 
 fn word_of(goal: Goal) -> &'static str
@@ -68,6 +69,7 @@ fn word_of(goal: Goal) -> &'static str
         Goal::Triangulation => "Triangulation",
         Goal::DualMode => "DualMode",
         Goal::PrimalMode => "PrimalMode",
+        Goal::LatticePoints => "LatticePoints",
     }
 }
 

@@ -19,7 +19,8 @@ returns c =
     let step9 = c.in_ok-made-9.ensures ∙ ap₂ with_rule step8 c.flag-9.ensures.rule in
     let step10 = c.in_ok-made-10.ensures ∙ ap₂ with_rule step9 c.flag-10.ensures.rule in
     let step11 = c.in_ok-made-11.ensures ∙ ap₂ with_rule step10 c.flag-11.ensures.rule in
-    let step12 = c.in_ok-made-12.ensures ∙ ap₂ with_rule step11 c.setting.ensures.rule in
-    let step13 = c.in_ok-made-13.ensures ∙ ap₂ with_rule step12 c.setting-2.ensures.rule in
-    let step14 = c.in_ok-made-14.ensures ∙ ap₂ with_rule step13 c.setting-3.ensures.rule in
-    IfOk-weaker c.with-15.result _ _ (λ made h. h ∙ ap₂ with_rule step14 c.project.ensures.rule) c.with-15.ensures
+    let step12 = c.in_ok-made-12.ensures ∙ ap₂ with_rule step11 c.flag-12.ensures.rule in
+    let step13 = c.in_ok-made-13.ensures ∙ ap₂ with_rule step12 c.setting.ensures.rule in
+    let step14 = c.in_ok-made-14.ensures ∙ ap₂ with_rule step13 c.setting-2.ensures.rule in
+    let step15 = c.in_ok-made-15.ensures ∙ ap₂ with_rule step14 c.setting-3.ensures.rule in
+    IfOk-weaker c.with-16.result _ _ (λ made h. h ∙ ap₂ with_rule step15 c.project.ensures.rule) c.with-16.ensures
