@@ -7,3 +7,4 @@ pub mod Answering
 mod ModeTexts
 mod UnitTexts
 mod ClosureTexts
+pub mod PointTexts

@@ -1,7 +1,7 @@
 -- A file has one text, whatever the mode.
 use Rattle.nz_vec.specs.Texts.{Text}
 use Rattle.std.proofs.Common.{◌≡◌, List, refl, sym, ap, ◌∙◌, subst}
-use Rattle.nz_input.specs.Files.{FileData, IsFile}
+use Rattle.nz_input.specs.Files.{FileData}
 use Rattle.nz_input.specs.declared.kind.Goal.{Goal}
 use Rattle.nz_system.specs.declared.asked.GoalSet.{GoalSet}
 use Rattle.nz_system.specs.Asked.{goals_of}
@@ -10,7 +10,7 @@ use Rattle.nz_blocks.specs.Outcomes.{OutcomeData}
 use Rattle.nz_blocks.specs.Output.{text_of}
 use Rattle.nz_solve.specs.Solutions.{IsSolution}
 use Rattle.nz_solve.specs.Laws.{ModesAgree}
-use Rattle.nz_ideal.specs.Meanings.{meaning, system_of, HasMeaning}
+use Rattle.nz_ideal.specs.Meanings.{meaning, system_of}
 use Rattle.nz_input.specs.Laws.{OneFile, TextsKeep, ReadsBack}
 use Rattle.nz_input.specs.Texts.{IsTextOf}
 use Rattle.nz_run.specs.Laws.{ModesGiveOneText, RunsGiveOneText, ConversionsKeepTheFile, IsTextFor}

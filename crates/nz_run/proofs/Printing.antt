@@ -12,7 +12,7 @@ use Rattle.nz_make.specs.Squares.{sum_of_all}
 use Rattle.nz_make.specs.Laws.{PointsAreCounted}
 use Rattle.nz_words.specs.Orders.{OrderData, IsOrder}
 use Rattle.nz_run.specs.declared.status.Status.{Status}
-use Rattle.nz_run.specs.declared.status.Status.TheVariants.{Done, Usage, Absent, ReadFault, TooLong, Grammar, Meaning, Line, Grade, Range, TooMany, Stopped, WriteFault, NoMemory, Converted, UnitsDone}
+use Rattle.nz_run.specs.declared.status.Status.TheVariants.{Done, Usage, Absent, ReadFault, TooLong, Grammar, Meaning, Line, Grade, Range, TooMany, Stopped, WriteFault, NoMemory, Converted, UnitsDone, Points, Unbounded}
 use Rattle.nz_run.specs.Statuses.{status_line}
 use Rattle.nz_run.specs.Runs.{IsSideOf}
 use Rattle.nz_run.specs.Summaries.{counted_line, summary_line, DonePrints, Prints, PutsLines, known_line, known_lines}
@@ -60,6 +60,8 @@ known_other n WriteFault h = refl
 known_other n NoMemory h = refl
 known_other n Converted h = refl
 known_other n UnitsDone h = refl
+known_other n Points h = refl
+known_other n (Unbounded v) h = refl
 
 -- ---- what is written is what is to be printed
 
@@ -93,8 +95,12 @@ prints law words None h NoMemory ordered = refl
 prints law words (Some n) h NoMemory ordered = refl
 prints law words None h Converted ordered = refl
 prints law words None h UnitsDone ordered = refl
+prints law words None h Points ordered = refl
+prints law words None h (Unbounded v) ordered = refl
 prints law words (Some n) h Converted ordered = refl
 prints law words (Some n) h UnitsDone ordered = refl
+prints law words (Some n) h Points ordered = refl
+prints law words (Some n) h (Unbounded v) ordered = refl
 
 pub puts_lines : PointsAreCounted → (words : List Text) (r : Bool) (f f' : ℕ) (status : Status) (side : Option ℕ) (o n : Option Text) → IsSideOf side → (status ≡ Done → (order : OrderData) × IsOrder words order × (order.make ≡ side)) → (IsFalse r → Rose f f') → BothTold o n (λ old new. PutAll old new (known_lines side status) r) → BothTold o n (PutsLines words f f' status)
 puts_lines law words r f f' status side o n within ordered cause h = told_weaker o n (λ old new. PutAll old new (known_lines side status) r) (PutsLines words f f' status) h (go r cause)

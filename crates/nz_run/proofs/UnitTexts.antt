@@ -1,5 +1,5 @@
 -- The lists of a file's system are those of the file.
-use Rattle.std.proofs.Common.{◌≡◌, ℕ, List, refl, sym, ap, ◌∙◌, subst}
+use Rattle.std.proofs.Common.{◌≡◌, ℕ, List, sym, ap, ◌∙◌, subst}
 use Rattle.nz_vec.specs.Texts.{Text}
 use Rattle.nz_vec.specs.declared.answers.Work.{Work}
 use Rattle.nz_vec.specs.declared.answers.Work.TheVariants as work
@@ -14,7 +14,8 @@ use Rattle.nz_watch.specs.Telling.{Watched}
 use Rattle.nz_watch.proofs.TellingLemmas.{none_told}
 use Rattle.nz_solve.specs.Solutions.{half}
 use Rattle.nz_run.specs.declared.status.Status.{Status}
-use Rattle.nz_run.specs.UnitRuns.{units_text, status_of_work, AreUnitsFound, IsUnitsCause}
+use Rattle.nz_run.specs.SystemCauses.{status_of_work}
+use Rattle.nz_run.specs.UnitRuns.{units_text, AreUnitsFound, IsUnitsCause}
 
 pub units_found : (goals : List Goal) (limit : ℕ) (file : FileData) (s : SystemData) (amb : ℕ) (units modules classes : List Vector) (output : Text) → HasMeaning file goals → s ≡ meaning file goals → amb ≡ file.amb → AreSystemUnits limit s.system units modules classes → output ≡ units_text amb s.system.level units modules classes → (w : Watched) → AreUnitsFound goals limit w w file output
 units_found goals limit file s amb units modules classes output ready e a lists same w = record {

@@ -17,6 +17,7 @@ use Rattle.nz_solve.specs.Solutions.{IsSolution, wants_modules, wants_basis}
 use Rattle.nz_edge.specs.Folders.{Files, Stores}
 use Rattle.nz_watch.specs.Telling.{Watched}
 use Rattle.nz_words.specs.Orders.{OrderData, IsOrder}
+use Rattle.nz_run.specs.declared.kinds.RunKind.TheVariants.{Plain}
 use Rattle.nz_run.specs.declared.status.Status.{Status}
 use Rattle.nz_run.specs.declared.status.Status.TheVariants.{Done}
 use Rattle.nz_run.specs.Runs.{IsInput, Explains, output_name}
@@ -31,7 +32,7 @@ pub record IsClosureText (file : FileData) (goals : List Goal) (output : Text) :
 
 -- at Done, where the input is a text of a file with monomials, such a text is stored
 abbrev pub StoresClosures : List Text → Status → Files → Files → Type 0
-StoresClosures words Done old new = (order : OrderData) (input : Text) (file : FileData) → IsOrder words order → IsInput order.make order.project old input → IsTextOf input file → IsTrue (has_ideal file) → (output : Text) × IsClosureText file order.goals output × Stores (output_name order) output old new
+StoresClosures words Done old new = (order : OrderData) (input : Text) (file : FileData) → IsOrder words order → IsInput order.make order.project old input → IsTextOf input file → IsTrue (has_ideal file) → (output : Text) × IsClosureText file order.goals output × Stores (output_name order Plain) output old new
 StoresClosures words status old new = Unit {0}
 
 -- what is said of the outcome of a run says this of it

@@ -1,6 +1,7 @@
--- Which runs end with Done, Converted or UnitsDone, unless memory runs out.
-use Rattle.std.specs.Prelude.{◌≡◌, ℕ, List}
+-- Which runs end with Done, Converted, UnitsDone, Points or Unbounded, unless memory runs out.
+use Rattle.std.specs.Prelude.{◌≡◌, ◌⊎◌, ℕ, List}
 use Rattle.nz_vec.specs.Texts.{Text}
+use Rattle.nz_spec.specs.Vectors.{Vector}
 use Rattle.nz_spec.specs.Systems.{System, IsMember}
 use Rattle.nz_spec.specs.Monoids.{IsPositive}
 use Rattle.nz_measures.specs.Crowds.{IsPrimalCrowdAbove}
@@ -19,10 +20,12 @@ use Rattle.nz_watch.specs.Telling.{Watched}
 use Rattle.nz_words.specs.Orders.{OrderData, IsOrder}
 use Rattle.nz_ideal.specs.Meanings.{system_of, meaning, HasMeaning}
 use Rattle.nz_units.specs.SystemRefusals.{IsUnitReachAbove, IsUnitCrowdAbove}
+use Rattle.nz_further.specs.Shadows.{IsBounded}
+use Rattle.nz_lift.specs.SystemRefusals.{IsPointReachAbove, IsPointCrowdAbove}
 use Rattle.nz_run.specs.declared.status.Status.{Status}
-use Rattle.nz_run.specs.declared.status.Status.TheVariants.{Done, Converted, UnitsDone}
-use Rattle.nz_run.specs.declared.kinds.RunKind.TheVariants.{Plain, Convert, Units}
-use Rattle.nz_run.specs.Kinds.{kind_of}
+use Rattle.nz_run.specs.declared.status.Status.TheVariants.{Done, Converted, UnitsDone, Points, Unbounded, NoMemory}
+use Rattle.nz_run.specs.declared.kinds.RunKind.TheVariants.{Plain, Convert, Units, LatticePoints}
+use Rattle.nz_run.specs.Kinds.{kind_for}
 use Rattle.nz_run.specs.Runs.{IsInput, IsShort, Explains, CountRose, Decided}
 use Rattle.nz_run.specs.Watches.{WatchSays}
 
@@ -50,35 +53,49 @@ pub record IsValidInput (goals : List Goal) (limit : ℕ) (input : Text) : Type 
 pub record IsValidRun (words : List Text) (files : Files) : Type 0 where
   pub order : OrderData
   pub ordered : IsOrder words order
-  pub plain : kind_of order ≡ Plain
   pub input : Text
   pub loaded : IsInput order.make order.project files input
   pub valid : IsValidInput order.goals order.limit input
+  pub plain : kind_for order valid.file ≡ Plain
 
 -- the words order a conversion, and its input is a text, not too long, of a file
 pub record IsValidConversion (words : List Text) (files : Files) : Type 0 where
   pub order : OrderData
   pub ordered : IsOrder words order
-  pub converts : kind_of order ≡ Convert
   pub input : Text
   pub loaded : IsInput order.make order.project files input
   pub short : IsShort input
   pub file : FileData
   pub read : IsTextOf input file
+  pub converts : kind_for order file ≡ Convert
 
 -- the words order a run that lists units, and its input is a text, not too long, of a file that breaks no rule of meaning, whose numbers are small enough and whose lists are short enough
 pub record IsValidListing (words : List Text) (files : Files) : Type 0 where
   pub order : OrderData
   pub ordered : IsOrder words order
-  pub lists : kind_of order ≡ Units
   pub input : Text
   pub loaded : IsInput order.make order.project files input
   pub short : IsShort input
   pub file : FileData
   pub read : IsTextOf input file
+  pub lists : kind_for order file ≡ Units
   pub ready : HasMeaning file order.goals
   pub small : ¬ IsUnitReachAbove (system_of file) half
   pub few : ¬ IsUnitCrowdAbove (system_of file) order.limit
+
+-- the words order a run that lists lattice points, and its input is a text, not too long, of a file that breaks no rule of meaning, whose numbers are small enough and whose shadows for the limit
+pub record IsValidPointRun (words : List Text) (files : Files) : Type 0 where
+  pub order : OrderData
+  pub ordered : IsOrder words order
+  pub input : Text
+  pub loaded : IsInput order.make order.project files input
+  pub short : IsShort input
+  pub file : FileData
+  pub read : IsTextOf input file
+  pub points : kind_for order file ≡ LatticePoints
+  pub ready : HasMeaning file order.goals
+  pub small : ¬ IsPointReachAbove (system_of file) half
+  pub few : ¬ IsPointCrowdAbove (system_of file) order.limit
 
 -- the folder counts no fault and no failed store, and the watch no stop
 pub record IsUndisturbed (faults faults' stores stores' : ℕ) (before now : Watched) : Type 0 where
@@ -106,3 +123,13 @@ ConversionsAreAnswered = (words : List Text) (old new : Files) (faults faults' m
 abbrev pub ListingsAreAnswered : Type 0
 ListingsAreAnswered = (words : List Text) (old new : Files) (faults faults' misses misses' stores stores' : ℕ) (before now : Watched) (status : Status)
     → IsValidListing words old → IsUndisturbed faults faults' stores stores' before now → IsRunStatus words old new faults faults' misses misses' stores stores' before now status → Decided status UnitsDone
+
+-- a valid run that lists lattice points and that nothing disturbs ends, unless memory runs out, with Points where its system is bounded
+abbrev pub PointsAreAnswered : Type 0
+PointsAreAnswered = (words : List Text) (old new : Files) (faults faults' misses misses' stores stores' : ℕ) (before now : Watched) (status : Status)
+    → (valid : IsValidPointRun words old) → IsBounded (IsMember (system_of valid.file)) → IsUndisturbed faults faults' stores stores' before now → IsRunStatus words old new faults faults' misses misses' stores stores' before now status → Decided status Points
+
+-- and with Unbounded where it is not
+abbrev pub UnboundedAreAnswered : Type 0
+UnboundedAreAnswered = (words : List Text) (old new : Files) (faults faults' misses misses' stores stores' : ℕ) (before now : Watched) (status : Status)
+    → (valid : IsValidPointRun words old) → ¬ IsBounded (IsMember (system_of valid.file)) → IsUndisturbed faults faults' stores stores' before now → IsRunStatus words old new faults faults' misses misses' stores stores' before now status → ((v : Vector) × (status ≡ Unbounded v)) ⊎ (status ≡ NoMemory)

@@ -1,7 +1,9 @@
 pub mod Statuses
 pub mod Watches
 pub mod Solving
+pub mod SystemCauses
 pub mod UnitRuns
+pub mod PointRuns
 pub mod Kinds
 pub mod Runs
 pub mod Summaries

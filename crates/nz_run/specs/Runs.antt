@@ -1,5 +1,5 @@
 -- What a run leaves, status by status.
-use Rattle.std.specs.Prelude.{◌≡◌, ◌⊎◌, ℕ, ◌+◌, ◌<◌, ◌≤◌, Bool, true, false, ◌++◌, codes, List, length, take, Option, Some, None, IfSome, IsSome}
+use Rattle.std.specs.Prelude.{◌≡◌, ◌⊎◌, ℕ, ◌+◌, ◌<◌, ◌≤◌, ◌++◌, List, length, take, Option, Some, None, IfSome, IsSome}
 use Rattle.nz_vec.specs.Texts.{Text}
 use Rattle.nz_input.specs.Files.{FileData}
 use Rattle.nz_input.specs.declared.kind.Goal.{Goal}
@@ -7,21 +7,20 @@ use Rattle.nz_input.specs.Texts.{IsTextOf}
 use Rattle.nz_input.specs.Refusals.{IsRefusedAt}
 use Rattle.nz_edge.specs.Folders.{Files, SameFiles, SameOthers, Stores}
 use Rattle.nz_watch.specs.Counts.{IsQuiet, Rose}
-use Rattle.nz_watch.specs.Watching.{Pair}
 use Rattle.nz_watch.specs.Telling.{Watched}
 use Rattle.nz_words.specs.Orders.{OrderData, IsOrder, AreRefused, input_name}
-use Rattle.nz_run.specs.Kinds.{kind_of, ending_of, IsFileFound, IsCauseIn}
+use Rattle.nz_run.specs.Kinds.{kind_for, ending_of, IsFileFound, IsCauseIn}
 use Rattle.nz_run.specs.Watches.{WasToldNothing}
 use Rattle.nz_run.specs.declared.kinds.RunKind.{RunKind}
-use Rattle.nz_run.specs.declared.kinds.RunKind.TheVariants.{Plain, Convert, Units}
+use Rattle.nz_run.specs.declared.kinds.RunKind.TheVariants.{Plain, Convert, Units, LatticePoints}
 use Rattle.nz_input.specs.Canonical.{canonical}
 use Rattle.nz_make.specs.Squares.{made_file}
 use Rattle.nz_run.specs.declared.status.Status.{Status}
-use Rattle.nz_run.specs.declared.status.Status.TheVariants.{Done, Usage, Absent, ReadFault, TooLong, Grammar, Meaning, Line, Grade, Range, TooMany, Stopped, WriteFault, NoMemory, Converted, UnitsDone}
+use Rattle.nz_run.specs.declared.status.Status.TheVariants.{Done, Usage, Absent, ReadFault, TooLong, Grammar, Meaning, Line, Grade, Range, TooMany, Stopped, WriteFault, NoMemory, Converted, UnitsDone, Points, Unbounded}
 
--- the file that a run stores
-abbrev pub output_name : OrderData → Text
-output_name order = order.project ++ ending_of (kind_of order)
+-- the file that a run of this kind stores
+abbrev pub output_name : OrderData → RunKind → Text
+output_name order kind = order.project ++ ending_of kind
 
 -- the most bytes of an input
 abbrev pub most : ℕ
@@ -55,49 +54,57 @@ pub record IsFound (kind : RunKind) (goals : List Goal) (limit : ℕ) (before no
   pub read : IsTextOf input file
   pub found : IsFileFound kind goals limit before now file output
 
--- the input is a text of a file that is the cause of the status
-pub record IsReadCause (kind : RunKind) (goals : List Goal) (limit : ℕ) (before now : Watched) (input : Text) (status : Status) : Type 0 where
+-- the run that is ordered is of this kind on the file of which the input is a text, and the output is what it finds for that
+pub record IsFoundFor (order : OrderData) (kind : RunKind) (before now : Watched) (input output : Text) : Type 0 where
+  pub found : IsFound kind order.goals order.limit before now input output
+  pub of_kind : kind_for order found.file ≡ kind
+
+-- the input is a text of a file that is the cause of the status of the run that is ordered
+pub record IsReadCause (order : OrderData) (before now : Watched) (input : Text) (status : Status) : Type 0 where
   pub file : FileData
   pub short : IsShort input
   pub read : IsTextOf input file
-  pub cause : IsCauseIn kind goals limit before now file status
+  pub cause : IsCauseIn (kind_for order file) order.goals order.limit before now file status
 
--- the input is the cause of the status of a run of the kind, or memory ran out: before a stage was told, or among the stages of the file's system
-abbrev pub IsCause : RunKind → List Goal → (limit : ℕ) → (before now : Watched) → Text → Status → Type 0
-IsCause kind goals limit before now input TooLong = (most < length input) × WasToldNothing before now
-IsCause kind goals limit before now input (Grammar l c f) = IsShort input × IsRefusedAt input l c f × WasToldNothing before now
-IsCause kind goals limit before now input (Meaning i r f) = IsReadCause kind goals limit before now input (Meaning i r f)
-IsCause kind goals limit before now input (Line v) = IsReadCause kind goals limit before now input (Line v)
-IsCause kind goals limit before now input (Grade v) = IsReadCause kind goals limit before now input (Grade v)
-IsCause kind goals limit before now input Range = IsReadCause kind goals limit before now input Range
-IsCause kind goals limit before now input TooMany = IsReadCause kind goals limit before now input TooMany
-IsCause kind goals limit before now input (Stopped k) = IsReadCause kind goals limit before now input (Stopped k)
-IsCause kind goals limit before now input NoMemory = WasToldNothing before now ⊎ IsReadCause kind goals limit before now input NoMemory
-IsCause kind goals limit before now input Done = ⊥
-IsCause kind goals limit before now input Usage = ⊥
-IsCause kind goals limit before now input Absent = ⊥
-IsCause kind goals limit before now input ReadFault = ⊥
-IsCause kind goals limit before now input WriteFault = ⊥
-IsCause kind goals limit before now input Converted = ⊥
-IsCause kind goals limit before now input UnitsDone = ⊥
+-- the input is the cause of the status of the run that is ordered, or memory ran out: before a stage was told, or among the stages of the file's system
+abbrev pub IsCause : OrderData → (before now : Watched) → Text → Status → Type 0
+IsCause order before now input TooLong = (most < length input) × WasToldNothing before now
+IsCause order before now input (Grammar l c f) = IsShort input × IsRefusedAt input l c f × WasToldNothing before now
+IsCause order before now input (Meaning i r f) = IsReadCause order before now input (Meaning i r f)
+IsCause order before now input (Line v) = IsReadCause order before now input (Line v)
+IsCause order before now input (Grade v) = IsReadCause order before now input (Grade v)
+IsCause order before now input (Unbounded v) = IsReadCause order before now input (Unbounded v)
+IsCause order before now input Range = IsReadCause order before now input Range
+IsCause order before now input TooMany = IsReadCause order before now input TooMany
+IsCause order before now input (Stopped k) = IsReadCause order before now input (Stopped k)
+IsCause order before now input NoMemory = WasToldNothing before now ⊎ IsReadCause order before now input NoMemory
+IsCause order before now input Done = ⊥
+IsCause order before now input Usage = ⊥
+IsCause order before now input Absent = ⊥
+IsCause order before now input ReadFault = ⊥
+IsCause order before now input WriteFault = ⊥
+IsCause order before now input Converted = ⊥
+IsCause order before now input UnitsDone = ⊥
+IsCause order before now input Points = ⊥
 
 -- ---- what a run leaves
 
--- the run that is ordered is of this kind, and what it finds is stored under this name
-abbrev pub HasStored : RunKind → OrderData → (before now : Watched) → (name input : Text) → Files → Files → Type 0
-HasStored kind order before now name input old new = (kind_of order ≡ kind) × (output : Text) × IsFound kind order.goals order.limit before now input output × Stores name output old new
+-- the run that is ordered is of this kind on the input's file, and what it finds is stored
+abbrev pub HasStored : RunKind → OrderData → (before now : Watched) → (input : Text) → Files → Files → Type 0
+HasStored kind order before now input old new = (output : Text) × IsFoundFor order kind before now input output × Stores (output_name order kind) output old new
 
--- what the status of a run that is ordered says of the input and of the files before and after; the name is that of the file that it stores
-abbrev pub Leaves : OrderData → (before now : Watched) → (name input : Text) → Status → Files → Files → Type 0
-Leaves order before now name input Done old new = HasStored Plain order before now name input old new
-Leaves order before now name input Converted old new = HasStored Convert order before now name input old new
-Leaves order before now name input UnitsDone old new = HasStored Units order before now name input old new
-Leaves order before now name input WriteFault old new = (output : Text) × IsFound (kind_of order) order.goals order.limit before now input output × SameOthers name old new
-Leaves order before now name input status old new = IsCause (kind_of order) order.goals order.limit before now input status × SameFiles old new
+-- what the status of a run that is ordered says of the input and of the files before and after
+abbrev pub Leaves : OrderData → (before now : Watched) → (input : Text) → Status → Files → Files → Type 0
+Leaves order before now input Done old new = HasStored Plain order before now input old new
+Leaves order before now input Converted old new = HasStored Convert order before now input old new
+Leaves order before now input UnitsDone old new = HasStored Units order before now input old new
+Leaves order before now input Points old new = HasStored LatticePoints order before now input old new
+Leaves order before now input WriteFault old new = (kind : RunKind) × (output : Text) × IsFoundFor order kind before now input output × SameOthers (output_name order kind) old new
+Leaves order before now input status old new = IsCause order before now input status × SameFiles old new
 
 -- memory ran out in the run that is ordered, as its input was read or after
 abbrev pub RanOut : OrderData → (before now : Watched) → Files → Type 0
-RanOut order before now old = (input : Text) × IsInput order.make order.project old input × IsReadCause (kind_of order) order.goals order.limit before now input NoMemory
+RanOut order before now old = (input : Text) × IsInput order.make order.project old input × IsReadCause order before now input NoMemory
 
 -- what the status of a run that is ordered says of the files; the counts of faults tell whether reading had one
 abbrev pub ExplainsOrder : OrderData → (before now : Watched) → (faults faults' : ℕ) → Status → Files → Files → Type 0
@@ -105,7 +112,7 @@ ExplainsOrder order before now faults faults' Usage old new = ⊥
 ExplainsOrder order before now faults faults' Absent old new = (order.make ≡ None) × (IsQuiet faults faults' → old (input_name order.project) ≡ None) × SameFiles old new
 ExplainsOrder order before now faults faults' ReadFault old new = (order.make ≡ None) × SameFiles old new
 ExplainsOrder order before now faults faults' NoMemory old new = SameFiles old new × (WasToldNothing before now ⊎ RanOut order before now old)
-ExplainsOrder order before now faults faults' status old new = (input : Text) × IsInput order.make order.project old input × Leaves order before now (output_name order) input status old new
+ExplainsOrder order before now faults faults' status old new = (input : Text) × IsInput order.make order.project old input × Leaves order before now input status old new
 
 -- what the status of a run says of the words, the files and the watch
 abbrev pub Explains : List Text → (before now : Watched) → (faults faults' : ℕ) → Status → Files → Files → Type 0

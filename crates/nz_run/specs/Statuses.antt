@@ -10,7 +10,7 @@ use Rattle.nz_system.specs.declared.refusal.MeaningFault.{MeaningFault}
 use Rattle.nz_system.specs.declared.refusal.MeaningFault.TheVariants as rule
 use Rattle.nz_blocks.specs.Lines.{line}
 use Rattle.nz_run.specs.declared.status.Status.{Status}
-use Rattle.nz_run.specs.declared.status.Status.TheVariants.{Done, Usage, Absent, ReadFault, TooLong, Grammar, Meaning, Line, Grade, Range, TooMany, Stopped, WriteFault, NoMemory, Converted, UnitsDone}
+use Rattle.nz_run.specs.declared.status.Status.TheVariants.{Done, Usage, Absent, ReadFault, TooLong, Grammar, Meaning, Line, Grade, Range, TooMany, Stopped, WriteFault, NoMemory, Converted, UnitsDone, Points, Unbounded}
 
 -- the exit status of the program
 abbrev pub code_of : Status → ℕ
@@ -30,6 +30,8 @@ code_of WriteFault = 13
 code_of NoMemory = 14
 code_of Converted = 17
 code_of UnitsDone = 18
+code_of Points = 19
+code_of (Unbounded v) = 20
 
 -- the name of a fault
 abbrev pub fault_name : Fault → Text
@@ -84,3 +86,5 @@ status_line WriteFault = line (codes "write fault")
 status_line NoMemory = line (codes "no memory")
 status_line Converted = line (codes "converted")
 status_line UnitsDone = line (codes "units done")
+status_line Points = line (codes "points")
+status_line (Unbounded v) = entries_line (codes "unbounded:") v

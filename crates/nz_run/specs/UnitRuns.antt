@@ -1,10 +1,7 @@
 -- A run that lists units: what it finds for a file, and what refuses it.
 use Rattle.std.specs.Prelude.{◌≡◌, ℕ, Bool, true, false, List, [], ◌++◌, codes, Err}
 use Rattle.nz_vec.specs.Texts.{Text}
-use Rattle.nz_vec.specs.declared.answers.Work.{Work}
-use Rattle.nz_vec.specs.declared.answers.Work.TheVariants as work
 use Rattle.nz_spec.specs.Vectors.{Vector}
-use Rattle.nz_spec.specs.Systems.{System}
 use Rattle.nz_input.specs.Files.{FileData}
 use Rattle.nz_input.specs.declared.kind.Goal.{Goal}
 use Rattle.nz_system.specs.declared.refusal.SystemRefusal.TheVariants as refusal
@@ -15,8 +12,9 @@ use Rattle.nz_blocks.specs.Output.{space_lines, block}
 use Rattle.nz_watch.specs.Telling.{Watched}
 use Rattle.nz_solve.specs.Solutions.{half}
 use Rattle.nz_run.specs.Watches.{WasToldNothing}
+use Rattle.nz_run.specs.SystemCauses.{IsOfSystem}
 use Rattle.nz_run.specs.declared.status.Status.{Status}
-use Rattle.nz_run.specs.declared.status.Status.TheVariants.{Meaning, Range, TooMany, Stopped, NoMemory}
+use Rattle.nz_run.specs.declared.status.Status.TheVariants.{Meaning, Range, TooMany, NoMemory}
 
 -- the block of the representatives of level 1, where there is a level
 abbrev pub module_block : Bool → List Vector → Text
@@ -37,23 +35,10 @@ pub record AreUnitsFound (goals : List Goal) (limit : ℕ) (before now : Watched
   pub same : output ≡ units_text file.amb (system_of file).level units modules classes
   pub told : WasToldNothing before now
 
--- the file breaks no rule of meaning, this holds of its system, and the watch was told nothing
-pub record IsUnlisted (goals : List Goal) (before now : Watched) (file : FileData) (Cause : System → Type 0) : Type 0 where
-  pub ready : HasMeaning file goals
-  pub cause : Cause (system_of file)
-  pub told : WasToldNothing before now
-
--- the status of a refusal of the lists; none of them is Stopped
-abbrev pub status_of_work : Work → Status
-status_of_work (work.Range told) = Range
-status_of_work work.TooMany = TooMany
-status_of_work (work.Stopped k) = Stopped k
-status_of_work work.NoMemory = NoMemory
-
 -- the file is the cause of the status of a run that lists units; memory may run out
 abbrev pub IsUnitsCause : List Goal → (limit : ℕ) → (before now : Watched) → FileData → Status → Type 0
 IsUnitsCause goals limit before now file (Meaning i r f) = IsMeaningOf file goals (Err (refusal.Meaning i r f)) × WasToldNothing before now
-IsUnitsCause goals limit before now file Range = IsUnlisted goals before now file (λ s. IsUnitReachAbove s half)
-IsUnitsCause goals limit before now file TooMany = IsUnlisted goals before now file (λ s. IsUnitCrowdAbove s limit)
+IsUnitsCause goals limit before now file Range = IsOfSystem goals before now file (λ s. IsUnitReachAbove s half)
+IsUnitsCause goals limit before now file TooMany = IsOfSystem goals before now file (λ s. IsUnitCrowdAbove s limit)
 IsUnitsCause goals limit before now file NoMemory = WasToldNothing before now
 IsUnitsCause goals limit before now file status = ⊥

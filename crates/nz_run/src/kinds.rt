@@ -1,8 +1,10 @@
 //! The kinds of runs. What they share stands in the modules `top` and `finding`; each finds its text in a module of its own.
 ghost use Rattle.std.specs.Prelude.{◌≡◌};
-ghost use Rattle.nz_run.specs.Kinds.{kind_of, ending_of, stored_status};
+ghost use Rattle.nz_run.specs.Kinds.{kind_for, ending_of, stored_status};
 
 use crate::Status;
+use nz_input::File;
+use nz_system::goal_set;
 use nz_words::RunOrder;
 
 /// What a run does with the file that it reads.
@@ -14,16 +16,20 @@ pub enum RunKind {
     Convert,
     /// The units of the file's system and a vector of each irreducible class are stored.
     Units,
+    /// The lattice points of the file's system are stored.
+    LatticePoints,
 }
 
-/// The kind of the run that is ordered.
-pub(crate) fn kind_ordered(order: &RunOrder) -> RunKind
-    ensures { result ≡ kind_of order.now }
+/// The kind of the run that is ordered, on this file.
+pub(crate) fn kind_for(order: &RunOrder, file: &File) -> RunKind
+    ensures { result ≡ kind_for order.now file.now }
 {
     if order.convert {
         RunKind::Convert
     } else if order.units {
         RunKind::Units
+    } else if goal_set(&file.goals, &order.goals).lattice_points {
+        RunKind::LatticePoints
     } else {
         RunKind::Plain
     }
@@ -38,6 +44,7 @@ impl RunKind {
             RunKind::Plain => ".out",
             RunKind::Convert => ".conv",
             RunKind::Units => ".units",
+            RunKind::LatticePoints => ".points",
         }
     }
 
@@ -49,6 +56,7 @@ impl RunKind {
             RunKind::Plain => Status::Done,
             RunKind::Convert => Status::Converted,
             RunKind::Units => Status::UnitsDone,
+            RunKind::LatticePoints => Status::Points,
         }
     }
 }

@@ -1,5 +1,5 @@
 //! What all runs of a file have in common, and which runs are answered.
-ghost use Rattle.nz_run.specs.Completeness.{ValidRunsAreAnswered, ConversionsAreAnswered, ListingsAreAnswered};
+ghost use Rattle.nz_run.specs.Completeness.{ValidRunsAreAnswered, ConversionsAreAnswered, ListingsAreAnswered, PointsAreAnswered, UnboundedAreAnswered};
 ghost use Rattle.nz_run.specs.Closures.{ClosuresAreStored};
 ghost use Rattle.nz_run.specs.Laws.{ModesGiveOneText, RunsGiveOneText, ConversionsKeepTheFile};
 
@@ -64,6 +64,23 @@ pub fn closures_are_stored()
 /// disturbs, ends with UnitsDone, or for want of memory.
 pub fn listings_are_answered()
     ensures { ListingsAreAnswered }
+{
+    words_order_one_thing();
+    texts_have_one_file();
+}
+
+/// A run that lists lattice points, whose input is a text of a file with a meaning and with a bounded system, with small numbers and
+/// small shadows, and that no fault disturbs, ends with Points, or for want of memory.
+pub fn points_are_answered()
+    ensures { PointsAreAnswered }
+{
+    words_order_one_thing();
+    texts_have_one_file();
+}
+
+/// The same run ends with Unbounded, or for want of memory, where the system is not bounded.
+pub fn unbounded_are_answered()
+    ensures { UnboundedAreAnswered }
 {
     words_order_one_thing();
     texts_have_one_file();

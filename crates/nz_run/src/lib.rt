@@ -10,6 +10,8 @@ mod finding;
 mod kinds;
 mod laws;
 mod listing;
+mod pointing;
+mod refusals;
 mod solving;
 mod status;
 mod status_lines;
@@ -18,7 +20,8 @@ mod top;
 pub use kinds::RunKind;
 pub use laws::{
     closures_are_stored, conversions_are_answered, conversions_keep_the_file,
-    listings_are_answered, modes_give_one_text, runs_give_one_text, valid_runs_are_answered,
+    listings_are_answered, modes_give_one_text, points_are_answered, runs_give_one_text,
+    unbounded_are_answered, valid_runs_are_answered,
 };
 pub use status::Status;
 pub use top::run;

@@ -1,15 +1,16 @@
 //! A run that lists units: those of the file's system, and one vector for each irreducible class.
 ghost use Rattle.std.specs.Prelude.{◌≡◌, ◌++◌, IfOk, MatchResult, OnOk};
 ghost use Rattle.nz_watch.specs.Telling.{Watched};
-ghost use Rattle.nz_run.specs.UnitRuns.{module_block, units_text, status_of_work, AreUnitsFound, IsUnitsCause};
+ghost use Rattle.nz_run.specs.UnitRuns.{module_block, units_text, AreUnitsFound, IsUnitsCause};
 
 use crate::Status;
+use crate::refusals::status_of_work;
 use nz_blocks::{put_block, put_space};
 use nz_ideal::meaning_of;
 use nz_input::{File, Goals};
 use nz_system::SystemRefusal;
 use nz_units::{SystemUnits, system_units};
-use nz_vec::{Bytes, NoMemory, Rows, Work};
+use nz_vec::{Bytes, NoMemory, Rows};
 use std::alloc::Global;
 
 // The block of the representatives of level 1, where there is a level.
@@ -48,18 +49,6 @@ fn text_of_units(
         &lists.classes,
     )?;
     Ok(out)
-}
-
-// The status of a refusal of the lists; none of them is Stopped.
-fn status_of_work(refusal: Work) -> Status
-    ensures { result ≡ status_of_work refusal }
-{
-    match refusal {
-        Work::Range { .. } => Status::Range,
-        Work::TooMany => Status::TooMany,
-        Work::Stopped { stage } => Status::Stopped { stage },
-        Work::NoMemory => Status::NoMemory,
-    }
 }
 
 /// The text of the units and of the representatives of the irreducible classes of the file's system, or the

@@ -4,7 +4,7 @@ use nz_input::Fault;
 use nz_system::MeaningFault;
 use nz_vec::Ints;
 
-/// What a run ends with. On every status but `Done`, `Converted`, `UnitsDone` and `WriteFault` the files are as before.
+/// What a run ends with. On every status but `Done`, `Converted`, `UnitsDone`, `Points` and `WriteFault` the files are as before.
 #[derive(Drop)]
 pub enum Status {
     /// The text of what was asked is stored.
@@ -50,6 +50,10 @@ pub enum Status {
     Converted,
     /// The units and the representatives of the irreducible classes are stored.
     UnitsDone,
+    /// The lattice points are stored.
+    Points,
+    /// The file's system is not bounded: this vector is a nonzero member of level 0, and no multiple of a shorter member.
+    Unbounded(Ints),
 }
 
 impl Status {
@@ -76,6 +80,8 @@ impl Status {
             Status::NoMemory => 14,
             Status::Converted => 17,
             Status::UnitsDone => 18,
+            Status::Points => 19,
+            Status::Unbounded(_) => 20,
         }
     }
 }

@@ -198,6 +198,8 @@ fn put_status<S: Sink>(console: &mut S, status: &Status) -> bool
         Status::NoMemory => put_all(console, b"no memory\n"),
         Status::Converted => put_all(console, b"converted\n"),
         Status::UnitsDone => put_all(console, b"units done\n"),
+        Status::Points => put_all(console, b"points\n"),
+        Status::Unbounded(vector) => put_entries_line(console, b"unbounded:", vector),
     }
 }
 

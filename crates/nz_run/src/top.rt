@@ -11,8 +11,8 @@ ghost use Rattle.nz_run.specs.Summaries.{PutsLines};
 ghost use Rattle.nz_run.specs.Closures.{StoresClosures};
 
 use crate::Status;
-use crate::finding::{MOST, found};
-use crate::kinds::kind_ordered;
+use crate::finding::{FoundText, MOST, found};
+use crate::kinds::RunKind;
 use crate::laws::closures_are_stored;
 use crate::status_lines::put_lines;
 use nz_edge::{Folder, Load, Sink, Stored};
@@ -39,25 +39,28 @@ fn file_name(alloc: Global, project: &str, ending: &str) -> Result<String, NoMem
 // Finds the text for what was loaded, and stores it.
 fn find_and_store<F: Folder>(
     alloc: Global,
-    output_name: &str,
     order: &RunOrder,
     input: &[u8],
     folder: &mut F,
     watch: &mut Box<dyn Watch>,
 ) -> Status
-    ensures outcome { BothTold (F.files folder.old) (F.files folder.new) (Leaves order.now (seen watch.old) (seen watch.new) output_name.now input.now result) }
+    ensures outcome { BothTold (F.files folder.old) (F.files folder.new) (Leaves order.now (seen watch.old) (seen watch.new) input.now result) }
     ensures watch { WatchSays result (seen watch.old) (seen watch.new) }
     ensures count { StoreCount result (F.store_faults folder.old) (F.store_faults folder.new) }
     ensures faults { F.faults folder.new ≡ F.faults folder.old }
     ensures misses { F.misses folder.new ≡ F.misses folder.old }
     ensures later { F.store_faults folder.old ≤ F.store_faults folder.new }
 {
-    let text = match found(alloc, order, input, watch) {
-        Ok(text) => text,
+    let FoundText { kind, text } = match found(alloc, order, input, watch) {
+        Ok(found) => found,
         Err(status) => return status,
     };
-    match folder.store(output_name, text.as_slice()) {
-        Stored::Done => kind_ordered(order).status_when_stored(),
+    let name = match output_name(alloc, order, kind) {
+        Ok(name) => name,
+        Err(_) => return Status::NoMemory,
+    };
+    match folder.store(name.as_str(), text.as_slice()) {
+        Stored::Done => kind.status_when_stored(),
         Stored::Failed => Status::WriteFault,
         Stored::NoMemory => Status::NoMemory,
     }
@@ -70,12 +73,11 @@ fn input_name(alloc: Global, order: &RunOrder) -> Result<String, NoMemory>
     file_name(alloc, order.project.as_str(), ".in")
 }
 
-// The name of the file that the run stores.
-fn output_name(alloc: Global, order: &RunOrder) -> Result<String, NoMemory>
-    ensures { IfOk result (λ name. string_bytes name ≡ output_name order.now) }
+// The name of the file that the run stores, where it is of this kind.
+fn output_name(alloc: Global, order: &RunOrder, kind: RunKind) -> Result<String, NoMemory>
+    ensures { IfOk result (λ name. string_bytes name ≡ output_name order.now kind) }
 {
-    let ending = kind_ordered(order).ending();
-    file_name(alloc, order.project.as_str(), ending)
+    file_name(alloc, order.project.as_str(), kind.ending())
 }
 
 // The run that is ordered, whose file is loaded, up to its lines.
@@ -95,19 +97,8 @@ fn run_loaded<F: Folder>(
         Ok(name) => name,
         Err(_) => return Status::NoMemory,
     };
-    let output_name = match output_name(alloc, order) {
-        Ok(name) => name,
-        Err(_) => return Status::NoMemory,
-    };
     match folder.load(alloc, input_name.as_str(), MOST) {
-        Load::Bytes(input) => find_and_store(
-            alloc,
-            output_name.as_str(),
-            order,
-            input.as_slice(),
-            folder,
-            watch,
-        ),
+        Load::Bytes(input) => find_and_store(alloc, order, input.as_slice(), folder, watch),
         Load::Absent => Status::Absent,
         Load::Failed => Status::ReadFault,
         Load::NoMemory => Status::NoMemory,
@@ -145,22 +136,11 @@ fn run_made<F: Folder>(
     ensures faults { F.faults folder.new ≡ F.faults folder.old }
     ensures misses { F.misses folder.new ≡ F.misses folder.old }
 {
-    let output_name = match output_name(alloc, order) {
-        Ok(name) => name,
-        Err(_) => return Status::NoMemory,
-    };
     let input = match made_text(alloc, side) {
         Ok(input) => input,
         Err(_) => return Status::NoMemory,
     };
-    find_and_store(
-        alloc,
-        output_name.as_str(),
-        order,
-        input.as_slice(),
-        folder,
-        watch,
-    )
+    find_and_store(alloc, order, input.as_slice(), folder, watch)
 }
 
 // The run that is ordered, up to its lines.

@@ -16,6 +16,8 @@ mod make_tests;
 #[cfg(test)]
 mod mode_tests;
 #[cfg(test)]
+mod points_tests;
+#[cfg(test)]
 mod primal_tests;
 #[cfg(test)]
 mod run_tests;

@@ -94,7 +94,9 @@ fn refuses_as_it_lists_and_stores(rt: HostRuntime) -> Result<(), Fail> {
         ),
         (
             "--Units p",
-            Some(b"amb_space 3 cone 3 1000000000000000000 1 0 0 1000000000000000000 1 1 0 1000000000000000000".as_slice()),
+            Some(
+                b"amb_space 3 cone 3 1000000000000000000 1 0 0 1000000000000000000 1 1 0 1000000000000000000".as_slice(),
+            ),
             0,
             10,
             b"range\n".as_slice(),

@@ -53,6 +53,7 @@ fn put_goals(text: &mut String, goals: GoalSet) -> Result<(), Fail> {
         (goals.degree_one, " degree_one"),
         (goals.modules, " modules"),
         (goals.cover, " cover"),
+        (goals.lattice_points, " lattice_points"),
     ] {
         if on {
             text.push_str(name)?;
@@ -189,6 +190,12 @@ fn meanings(rt: HostRuntime) -> Result<(), Fail> {
             "width 3; eq; cg; ge 1 0 0, 0 0 -1; gens none; lat none; grading none; asked none; rays dual",
         ),
         (
+            "amb_space 1 strict_signs 1 LatticePoints",
+            0,
+            [].as_slice(),
+            "width 2 with level; eq; cg; ge 1 -1, 0 1; gens none; lat none; grading none; asked none; lattice_points primal",
+        ),
+        (
             "amb_space 3 strict_signs -1 0 1 signs 1 1 0",
             0,
             [Goal::ModuleGenerators].as_slice(),
@@ -271,6 +278,18 @@ fn meanings(rt: HostRuntime) -> Result<(), Fail> {
             0,
             [].as_slice(),
             "item 0 row 0: NoLevel",
+        ),
+        (
+            "amb_space 1 LatticePoints",
+            0,
+            [].as_slice(),
+            "item 0 row 0: NoLevel",
+        ),
+        (
+            "amb_space 1 LatticePoints Deg1Elements",
+            0,
+            [].as_slice(),
+            "item 0 row 0: NoGrading",
         ),
         (
             "amb_space 1 signs 1 equations 1024",

@@ -5,8 +5,10 @@ use std::test::Fail;
 
 // Words with `|` between them, and their order as text: project, limit, whether stages are printed, after how many the run stops, the
 // side of a made file where there is one, goals.
-const CASES: [(&str, &str); 58] = [
+const CASES: [(&str, &str); 60] = [
     ("", "usage"),
+    ("--LatticePoints|p", "p 100000 false None LatticePoints"),
+    ("--Lattice|p", "usage"),
     ("p", "p 100000 false None"),
     ("p|q", "usage"),
     ("p.in", "p 100000 false None"),

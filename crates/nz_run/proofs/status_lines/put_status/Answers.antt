@@ -3,7 +3,7 @@ use Rattle.std.specs.Prelude.{codes, decimal}
 use Rattle.nz_vec.specs.Texts.{Text}
 use Rattle.nz_blocks.specs.Lines.{line}
 use Rattle.nz_run.specs.Statuses.{rule_name, place_line, entries_line, status_line}
-use Rattle.nz_run.specs.declared.status.Status.TheVariants.{Usage, Absent, ReadFault, TooLong, Range, TooMany, WriteFault, NoMemory, Converted, UnitsDone}
+use Rattle.nz_run.specs.declared.status.Status.TheVariants.{Usage, Absent, ReadFault, TooLong, Range, TooMany, WriteFault, NoMemory, Converted, UnitsDone, Points}
 use Rattle.nz_run.proofs.Pieces.{put_same}
 use Rattle.nz_run.proofs.status_lines.put_status.Goals as goal
 
@@ -69,3 +69,11 @@ returns-in-Line-clause-written g c =
 pub returns-in-Grade-clause-written : goal.returns-in-Grade-clause-written
 returns-in-Grade-clause-written g c =
     put_same (entries_line (codes "grade:") c.in-Grade.vector) (status_line c.args.status.now) c.put_entries_line-in-Grade.result (g.S.Sink.written c.args.console.now) (g.S.Sink.written c.put_entries_line-in-Grade.new.console) (ap status_line (sym c.in-Grade.is)) c.put_entries_line-in-Grade.ensures.written
+
+pub returns-in-Points-clause-written : goal.returns-in-Points-clause-written
+returns-in-Points-clause-written g c =
+    put_same (status_line Points) (status_line c.args.status.now) c.put_all-in-Points.result (g.S.Sink.written c.args.console.now) (g.S.Sink.written c.put_all-in-Points.new.sink) (ap status_line (sym c.in-Points.is)) c.put_all-in-Points.ensures.written
+
+pub returns-in-Unbounded-clause-written : goal.returns-in-Unbounded-clause-written
+returns-in-Unbounded-clause-written g c =
+    put_same (entries_line (codes "unbounded:") c.in-Unbounded.vector) (status_line c.args.status.now) c.put_entries_line-in-Unbounded.result (g.S.Sink.written c.args.console.now) (g.S.Sink.written c.put_entries_line-in-Unbounded.new.console) (ap status_line (sym c.in-Unbounded.is)) c.put_entries_line-in-Unbounded.ensures.written

@@ -6,9 +6,6 @@ use Rattle.nz_run.proofs.top.run_made.Goals as goal
 pub returns-in-Err-clause-watch : goal.returns-in-Err-clause-watch
 returns-in-Err-clause-watch g c = ([], none_told _)
 
-pub returns-in-Err-made_text-clause-watch : goal.returns-in-Err-made_text-clause-watch
-returns-in-Err-made_text-clause-watch g c = ([], none_told _)
-
 pub returns-clause-outcome : goal.returns-clause-outcome
 returns-clause-outcome g c =
-    made_and_stored c.args.side c.args.order.now _ _ _ _ _ _ c.find_and_store.result _ _ c.requires.made (c.as_slice.ensures ∙ c.in-Ok-made_text.ensures) (c.as_str.ensures.value ∙ c.in-Ok.ensures) c.find_and_store.ensures.outcome
+    made_and_stored c.args.side c.args.order.now _ _ _ _ _ c.find_and_store.result _ _ c.requires.made (c.as_slice.ensures ∙ c.in-Ok.ensures) c.find_and_store.ensures.outcome
