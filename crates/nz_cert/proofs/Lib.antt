@@ -1,0 +1,13 @@
+pub mod WordLemmas
+pub mod NumberLemmas
+pub mod ReadingLemmas
+pub mod OrderLemmas
+pub mod ListLemmas
+pub mod StageLemmas
+pub mod TextLemmas
+pub mod CertificateLemmas
+pub mod WritingLemmas
+pub mod ReductionLemmas
+pub mod BridgeLemmas
+pub mod GroundLemmas
+pub mod OrderingLemmas
